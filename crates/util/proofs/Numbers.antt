@@ -1,0 +1,31 @@
+-- The laws of `numberAt`, over the number of bytes. Assumes nothing.
+use Prim.Native.Nat.{ℕ, suc, _+_, _*_, _^_, _≤_, _<_}
+use mathlib.Core.Path.{_≡_, refl, sym, ap, _∙_}
+use mathlib.Core.List.{List, [], _∷_, _++_}
+use native.Mathlib.Omega.{arith}
+use native.Mathlib.Nat.{pow-zero, pow-suc, mul-assoc, mul-comm, mul-add, one-mul}
+use lib.ListN.{length, take, drop, getD, length-drop}
+use lib.Seq.{take-add, drop-drop, drop-cons, length-take-le}
+use Rattle.util.specs.Number.{littleEndian, numberAt}
+
+-- the bytes behind m others count 256 ^ m times
+little-append : (xs ys : List ℕ) → littleEndian (xs ++ ys) ≡ littleEndian xs + 256 ^ length xs * littleEndian ys
+little-append [] ys = simp (pow-zero, one-mul) (omega arith)
+little-append (x ∷ xs) ys =
+    let e : 256 ^ suc (length xs) * littleEndian ys ≡ 256 * (256 ^ length xs * littleEndian ys) =
+    rw (pow-suc, mul-comm (256 ^ length xs) 256, mul-assoc) in
+    omega (arith, e, little-append xs ys)
+
+module _ (p : ℕ) (b : List ℕ) where
+  pub number-one : p < length b → getD b p 0 ≡ numberAt 1 p b
+  unfolding numberAt
+  number-one h = rw (drop-cons b p 0 h) (omega arith)
+
+  -- a number of m + n bytes, by its first m and the n behind them
+  pub number-add : (m n : ℕ) → p + m ≤ length b → numberAt m p b + 256 ^ m * numberAt n (p + m) b ≡ numberAt (m + n) p b
+  unfolding numberAt
+  number-add m n h =
+      let e : length (take m (drop p b)) ≡ m = length-take-le m (drop p b) (simp length-drop (omega arith)) in
+      sym
+      (ap littleEndian (take-add m n (drop p b))
+      ∙ (little-append (take m (drop p b)) (take n (drop m (drop p b))) ∙ rw (e, drop-drop m p b)))

@@ -1,0 +1,30 @@
+-- `util::cur::peek_u32` meets its contract: the answer goes by the case of `take_at`. Assumes nothing.
+use mathlib.Core.Path.{ap, _∙_}
+use borrow.Author.Needs.{needs}
+use Rattle.util.specs.Outcome.{result}
+use Rattle.util.proofs.Takes.{passes, took, lacked, short-on}
+use Rattle.util.proofs.cur.peek_u32.Statement.{statement}
+use Rattle.util.proofs.cur.peek_u32.Tie as tie
+
+take-at-requires : tie.Need-take-at-requires
+take-at-requires c κs = search needs
+
+enum-told : tie.Need-enum-told
+enum-told c = search needs
+
+view-u32-requires : tie.Need-view-u32-requires
+view-u32-requires c κs = took _ _ _ (c .enum-told .given .1) (c .before .before .take-at .ensures) .within
+
+enum-known-needed : tie.Need-enum-known-needed
+enum-known-needed c = search needs
+
+returns : tie.Need-returns
+returns c = ap result (c .view-u32 .ensures) ∙ passes _ _ _ _ (view-u32-requires (c .before) (c .view-u32 .lifetimes))
+
+returns-2 : tie.Need-returns-2
+returns-2 c = short-on _ _ _ _ (lacked _ _ _ (c .before .needed .given .1) (c .before .before .before .take-at .ensures))
+
+pub peek-u32-spec : {M : Type 1} → statement M
+peek-u32-spec =
+    tie.close
+    (tie.spec take-at-requires enum-told view-u32-requires enum-known-needed returns returns-2)

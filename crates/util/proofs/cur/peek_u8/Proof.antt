@@ -1,0 +1,40 @@
+-- `util::cur::peek_u8` meets its contract: the answer goes by the case of `take_at`. Assumes nothing.
+use mathlib.Core.Path.{ap, _∙_}
+use borrow.Author.Needs.{needs}
+use Rattle.util.specs.Outcome.{result}
+use Rattle.util.proofs.Takes.{passes, took, lacked, short-on}
+use Rattle.util.proofs.cur.peek_u8.Statement.{statement}
+use Rattle.util.proofs.cur.peek_u8.Tie as tie
+
+take-at-requires : tie.Need-take-at-requires
+take-at-requires c κs = search needs
+
+enum-told : tie.Need-enum-told
+enum-told c = search needs
+
+view-u8-requires : tie.Need-view-u8-requires
+view-u8-requires c κs = took _ _ _ (c .enum-told .given .1) (c .before .before .take-at .ensures) .within
+
+cast-t7 : tie.Need-cast-t7
+cast-t7 c = search needs
+
+enum-known-needed : tie.Need-enum-known-needed
+enum-known-needed c = search needs
+
+returns : tie.Need-returns
+returns c = ap result (c .view-u8 .ensures) ∙ passes _ _ _ _ (view-u8-requires (c .before) (c .view-u8 .lifetimes))
+
+returns-2 : tie.Need-returns-2
+returns-2 c = short-on _ _ _ _ (lacked _ _ _ (c .before .needed .given .1) (c .before .before .before .take-at .ensures))
+
+pub peek-u8-spec : {M : Type 1} → statement M
+peek-u8-spec =
+    tie.close
+    (tie.spec
+    take-at-requires
+    enum-told
+    view-u8-requires
+    cast-t7
+    enum-known-needed
+    returns
+    returns-2)

@@ -1,0 +1,4 @@
+pub mod Bits
+pub mod Number
+pub mod Outcome
+pub mod Take

@@ -1,0 +1,35 @@
+-- Takes. Assumes nothing.
+use Prim.Native.Nat.{ℕ, _+_, _^_}
+use mathlib.Core.Bool.{cond}
+use mathlib.Core.List.{List, []}
+use lib.ListN.{length, take, drop}
+use lib.Dec.{leb}
+use Rattle.util.specs.Outcome.{Outcome, result, refusal}
+use Rattle.util.specs.declared.cur.Needed.{Needed}
+use Rattle.util.specs.declared.cur.Taken.{Taken}
+use Rattle.util.specs.declared.cur.Taken.the-variants as taken
+use Rattle.util.specs.declared.cur.Peeked.{Peeked}
+use Rattle.util.specs.declared.cur.Peeked.the-variants as peeked
+
+-- The number that a `Needed` stands for.
+abbrev pub lengthOf : Needed → ℕ
+lengthOf s = s .low + cond (s .carry) (2 ^ 64) 0
+
+-- 01's number and value of each case. 01, "When a call is declined": "take is short", number 1, returned "want": the length needed.
+abbrev pub takenOutcome : Taken → Outcome ℕ
+takenOutcome (taken.Whole end) = result end
+takenOutcome (taken.Short needed) = refusal 1 (lengthOf needed)
+
+abbrev pub peekedOutcome : Peeked → Outcome ℕ
+peekedOutcome (peeked.Number n) = result n
+peekedOutcome (peeked.Short needed) = refusal 1 (lengthOf needed)
+
+-- 01, "Modules" 2: "A take of n bytes at p is short exactly if p + n, as an unbounded sum, exceeds the length; n = 0 passes at p equal
+-- to the length, not beyond." "Want is the length at which the failed take passes." On a block of `len` bytes a take that passes answers
+-- with `passed`.
+unfoldable pub takeOf : {A : Type 0} (len p n : ℕ) (passed : A) → Outcome A
+takeOf len p n passed = cond (leb (p + n) len) (result passed) (refusal 1 (p + n))
+
+-- The part that a take hands out. 01, "When a call is declined": "A declined data part is empty".
+unfoldable pub partOf : (p n : ℕ) → List ℕ → List ℕ
+partOf p n block = cond (leb (p + n) (length block)) (take n (drop p block)) []

@@ -1,0 +1,96 @@
+// Takes: some bytes at a position of a slice, or the length that the slice would need to hold them.
+//
+// An enum holds no reference, so a take is two calls: take_at says whether the bytes are there, and part_at hands them out.
+use crate::view::view_u8;
+use crate::view::view_u16;
+use crate::view::view_u32;
+ghost use mathlib.Core.Path.{_≡_};
+ghost use Prim.Native.Nat.{_+_};
+ghost use lib.ListN.{length};
+ghost use Rattle.util.specs.Number.{numberAt};
+ghost use Rattle.util.specs.Take.{lengthOf, takenOutcome, peekedOutcome, takeOf, partOf};
+
+// A length that may exceed 64 bits: low, and 2^64 more where carry is set.
+pub struct Needed {
+    pub low: usize,
+    pub carry: bool,
+}
+
+pub enum Taken {
+    // The bytes are there. They end before this position.
+    Whole(usize),
+    // The slice is short of this length.
+    Short(Needed),
+}
+
+pub enum Peeked {
+    Number(u32),
+    Short(Needed),
+}
+
+// The position behind n bytes at pos.
+fn end_of(pos: usize, n: usize) -> Needed
+    ensures { λ r. ⌜ lengthOf r ≡ pos + n ⌝ }
+{
+    let room = usize::MAX - pos;
+    if n <= room {
+        Needed {
+            low: pos + n,
+            carry: false,
+        }
+    } else {
+        Needed {
+            low: n - room - 1,
+            carry: true,
+        }
+    }
+}
+
+// Whether buf holds n bytes at pos. No bytes are held at buf's end, and not beyond.
+pub fn take_at(buf: &[u8], pos: usize, n: usize) -> Taken
+    ensures { λ r. ⌜ takenOutcome r ≡ takeOf (length (now (buf .entry))) pos n (pos + n) ⌝ }
+{
+    if pos <= buf.len() {
+        if n <= buf.len() - pos {
+            return Taken::Whole(pos + n);
+        }
+    }
+    Taken::Short(end_of(pos, n))
+}
+
+// The n bytes at pos, as the part of buf that they occupy, or the empty part where buf is short.
+pub fn part_at(buf: &[u8], pos: usize, n: usize) -> &[u8]
+    ensures { λ r. ⌜ now r ≡ partOf pos n (now (buf .entry)) ⌝ }
+{
+    match take_at(buf, pos, n) {
+        Taken::Whole(end) => &buf[pos..end],
+        Taken::Short(_) => &buf[..0],
+    }
+}
+
+pub fn peek_u8(buf: &[u8], pos: usize) -> Peeked
+    ensures { λ r. ⌜ peekedOutcome r ≡ takeOf (length (now (buf .entry))) pos 1 (numberAt 1 pos (now (buf .entry))) ⌝ }
+{
+    match take_at(buf, pos, 1) {
+        Taken::Whole(_) => Peeked::Number(view_u8(buf, pos) as u32),
+        Taken::Short(needed) => Peeked::Short(needed),
+    }
+}
+
+pub fn peek_u16(buf: &[u8], pos: usize) -> Peeked
+    ensures { λ r. ⌜ peekedOutcome r ≡ takeOf (length (now (buf .entry))) pos 2 (numberAt 2 pos (now (buf .entry))) ⌝ }
+{
+    match take_at(buf, pos, 2) {
+        Taken::Whole(_) => Peeked::Number(view_u16(buf, pos) as u32),
+        Taken::Short(needed) => Peeked::Short(needed),
+    }
+}
+
+pub fn peek_u32(buf: &[u8], pos: usize) -> Peeked
+    ensures { λ r. ⌜ peekedOutcome r ≡ takeOf (length (now (buf .entry))) pos 4 (numberAt 4 pos (now (buf .entry))) ⌝ }
+{
+    match take_at(buf, pos, 4) {
+        Taken::Whole(_) => Peeked::Number(view_u32(buf, pos)),
+        Taken::Short(needed) => Peeked::Short(needed),
+    }
+}
