@@ -1,8 +1,8 @@
 -- The laws of a texture word's sizes. Assumes nothing.
-use Prim.Native.Nat.{ℕ, _*_, _%_, _^_, _≤_}
+use Prim.Native.Nat.{ℕ, _*_, _%_, _^_, _≤_, _<_}
 use mathlib.Core.Path.{_≡_}
 use native.Mathlib.Omega.{arith}
-use native.Mathlib.Nat.{mul-le-mul, mul-le-mul-left}
+use native.Mathlib.Nat.{le-of-lt, lt-of-le-of-lt, mul-le-mul, mul-le-mul-left}
 use lib.Dec.{lit<}
 use lib.Pow.{pow-mono, shl-exact}
 use Rattle.nds.specs.Params.{width, height}
@@ -24,9 +24,10 @@ module _ (w : ℕ) where
   unfolding height
   height-le = size-le _
 
-  pub area-le : width w * height w ≤ 2 ^ 20
-  area-le = mul-le-mul {n₂ = 2 ^ 10} {m₂ = 2 ^ 10} width-le height-le
+-- a product of two sizes, and of two sizes and a byte
+module _ {a b : ℕ} (ha : a ≤ 1024) (hb : b ≤ 1024) where
+  pub area-lt : a * b < 2 ^ 32
+  area-lt = lt-of-le-of-lt (mul-le-mul {n₂ = 1024} {m₂ = 1024} ha hb) (lit< tt)
 
-  -- the bits of all texels, for any number of bits per texel that a byte holds
-  pub bits-le : {bpp : ℕ} → bpp ≤ 2 ^ 8 → width w * height w * bpp ≤ 2 ^ 28
-  bits-le h = mul-le-mul {n₂ = 2 ^ 20} {m₂ = 2 ^ 8} area-le h
+  pub bits-lt : {bpp : ℕ} → bpp < 2 ^ 8 → a * b * bpp < 2 ^ 32
+  bits-lt h = lt-of-le-of-lt (mul-le-mul {n₂ = 1024 * 1024} {m₂ = 2 ^ 8} (mul-le-mul ha hb) (le-of-lt h)) (lit< tt)

@@ -1,7 +1,7 @@
 -- The formats' facts, by the format's number f, and what they say of a texture word w. Assumes nothing.
 use Prim.Native.Nat.{ℕ, _*_, _/_}
-use mathlib.Core.Bool.{Bool, true, false, cond, _&&_, _||_}
-use mathlib.Core.List.{List, [], _∷_}
+use mathlib.Core.Bool.{Bool, cond, _&&_, _||_}
+use mathlib.Core.List.{[], _∷_}
 use lib.ListN.{getD}
 use lib.Dec.{leb, eqb}
 use Rattle.nds.specs.Params as Params

@@ -1,4 +1,4 @@
-// The texture formats' facts, and what follows from them for a texture word.
+// The texture formats' facts, and what they say of a texture word.
 use crate::texture_params::TextureParams;
 ghost use mathlib.Core.Path.{_≡_};
 ghost use Prim.Native.Nat.{_<_};
@@ -8,11 +8,11 @@ ghost use Rattle.nds.specs.Formats as Formats;
 pub struct TextureFormat(pub u8);
 
 pub enum Alpha {
-    // Alpha is 1.
+    // Every texel is solid.
     Opaque,
-    // Alpha is 0 or 1.
+    // A texel is solid or clear.
     Transparent,
-    // Alpha is from 0 to 1.
+    // A texel has any alpha.
     Translucent,
 }
 
@@ -31,42 +31,51 @@ pub struct FormatDesc {
     pub alpha_desc: AlphaDesc,
 }
 
+// Row n is format n.
 const DESCS: [FormatDesc; 8] = [
+    // 0
     FormatDesc {
         requires_palette: false,
         bpp: 0,
         alpha_desc: AlphaDesc::Opaque,
     },
+    // 1
     FormatDesc {
         requires_palette: true,
         bpp: 8,
         alpha_desc: AlphaDesc::Translucent,
     },
+    // 2
     FormatDesc {
         requires_palette: true,
         bpp: 2,
         alpha_desc: AlphaDesc::TransparentDependingOnParams,
     },
+    // 3
     FormatDesc {
         requires_palette: true,
         bpp: 4,
         alpha_desc: AlphaDesc::TransparentDependingOnParams,
     },
+    // 4
     FormatDesc {
         requires_palette: true,
         bpp: 8,
         alpha_desc: AlphaDesc::TransparentDependingOnParams,
     },
+    // 5
     FormatDesc {
         requires_palette: true,
         bpp: 2,
         alpha_desc: AlphaDesc::Transparent,
     },
+    // 6
     FormatDesc {
         requires_palette: true,
         bpp: 8,
         alpha_desc: AlphaDesc::Translucent,
     },
+    // 7
     FormatDesc {
         requires_palette: false,
         bpp: 16,
@@ -85,16 +94,18 @@ impl TextureFormat {
 }
 
 impl TextureParams {
-    // How many bytes the texture's data takes up.
+    // The length of the texture's data, of a block-compressed texture's first data, in bytes.
     pub fn byte_len(self) -> usize
         ensures { λ r. ⌜ r ≡ Formats.dataLength (self .0) ⌝ }
     {
         let desc = self.format().desc();
-        let bit_len = self.width() * self.height() * (desc.bpp as u32);
+        let width = self.width();
+        let height = self.height();
+        let bit_len = width * height * (desc.bpp as u32);
         bit_len as usize / 8
     }
 
-    // How many bytes the second data of a block-compressed texture takes up. Other textures have none.
+    // The length of a block-compressed texture's second data, in bytes. Other textures have none.
     pub fn byte_len2(self) -> usize
         ensures { λ r. ⌜ r ≡ Formats.secondLength (self .0) ⌝ }
     {
@@ -106,7 +117,7 @@ impl TextureParams {
         }
     }
 
-    // Whether the texture can have transparent or translucent texels.
+    // Which alphas the texture's texels can have.
     pub fn alpha_type(self) -> Alpha
         ensures { λ r. ⌜ r ≡ Formats.alpha (self .0) ⌝ }
     {

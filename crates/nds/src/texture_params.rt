@@ -85,12 +85,16 @@ impl TextureParams {
     pub fn wrap_s(self) -> Wrap
         ensures { λ r. ⌜ r ≡ wrapOf (Params.repeatS (self .0)) (Params.mirrorS (self .0)) ⌝ }
     {
-        wrap_axis(self.repeat_s(), self.mirror_s())
+        let repeat_s = self.repeat_s();
+        let mirror_s = self.mirror_s();
+        wrap_axis(repeat_s, mirror_s)
     }
 
     pub fn wrap_t(self) -> Wrap
         ensures { λ r. ⌜ r ≡ wrapOf (Params.repeatT (self .0)) (Params.mirrorT (self .0)) ⌝ }
     {
-        wrap_axis(self.repeat_t(), self.mirror_t())
+        let repeat_t = self.repeat_t();
+        let mirror_t = self.mirror_t();
+        wrap_axis(repeat_t, mirror_t)
     }
 }

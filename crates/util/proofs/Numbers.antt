@@ -1,9 +1,9 @@
 -- The laws of `numberAt`, over the number of bytes. Assumes nothing.
 use Prim.Native.Nat.{ℕ, suc, _+_, _*_, _^_, _≤_, _<_}
-use mathlib.Core.Path.{_≡_, refl, sym, ap, _∙_}
+use mathlib.Core.Path.{_≡_, sym, ap, _∙_}
 use mathlib.Core.List.{List, [], _∷_, _++_}
 use native.Mathlib.Omega.{arith}
-use native.Mathlib.Nat.{pow-zero, pow-suc, mul-assoc, mul-comm, mul-add, one-mul}
+use native.Mathlib.Nat.{pow-zero, pow-suc, mul-assoc, mul-comm, one-mul}
 use lib.ListN.{length, take, drop, getD, length-drop}
 use lib.Seq.{take-add, drop-drop, drop-cons, length-take-le}
 use Rattle.util.specs.Number.{littleEndian, numberAt}

@@ -1,17 +1,25 @@
--- The laws of `takeOf` and `partOf`, and what a caller of `take_at` learns from each case. Assumes nothing.
+-- The laws of `takeOf`, `partOf` and `lengthOf`. Assumes nothing.
 use Prim.Native.Nat.{ℕ, _+_, _^_, _≤_, _<_}
-use mathlib.Core.Path.{_≡_, refl, sym, ap, _∙_}
-use mathlib.Core.Bool.{Bool, true, false, cond}
+use mathlib.Core.Path.{_≡_, refl}
+use mathlib.Core.Bool.{Bool, true, false}
 use mathlib.Core.List.{List, []}
 use native.Mathlib.Omega.{arith}
 use lib.ListN.{length, take, drop}
 use lib.Dec.{leb}
 use borrow.Author.Tests.{le-leb, lt-leb, leb-true, leb-false}
-use Rattle.util.specs.Outcome.{Outcome, result, refusal}
-use Rattle.util.specs.Take.{lengthOf, takenOutcome, takeOf, partOf}
+use Rattle.util.specs.Outcome.{result, refusal}
+use Rattle.util.specs.Take.{lengthOf, takeOf, partOf}
 use Rattle.util.specs.declared.cur.Needed.{Needed}
-use Rattle.util.specs.declared.cur.Taken.{Taken}
-use Rattle.util.specs.declared.cur.Taken.the-variants.{Whole, Short}
+
+-- a take that passed: its bytes are there, and its answer is `passed`
+pub record Took {A : Type 0} (len p n : ℕ) (passed answer : A) : Type 0 where
+  pub within : p + n ≤ len
+  pub holds : answer ≡ passed
+
+-- a short take: its bytes would end at `needed`, which is past the length
+pub record Lacked (len p n needed : ℕ) : Type 0 where
+  pub past : len < p + n
+  pub ends : needed ≡ p + n
 
 module _ {A : Type 0} (len p n : ℕ) (passed : A) where
   pub passes : p + n ≤ len → result passed ≡ takeOf len p n passed
@@ -22,36 +30,29 @@ module _ {A : Type 0} (len p n : ℕ) (passed : A) where
   unfolding takeOf
   falls-short h = rw (lt-leb (p + n) len h)
 
--- the bytes of a take that passed are there, and end at `end`
-pub record Took (len p n end : ℕ) : Type 0 where
-  pub within : p + n ≤ len
-  pub ends : end ≡ p + n
-
--- the bytes of a short take would end at `needed`, which is past the length
-pub record Lacked (len p n : ℕ) (needed : Needed) : Type 0 where
-  pub past : len < p + n
-  pub ends : lengthOf needed ≡ p + n
-
-module _ (len p n : ℕ) where
-  pub took : {r : Taken} {end : ℕ} → r ≡ Whole end → takenOutcome r ≡ takeOf len p n (p + n) → Took len p n end
+  -- what the answer says of the take
+  pub took : {answer : A} → result answer ≡ takeOf len p n passed → Took len p n passed answer
   unfolding takeOf
-  took {end = end} e h = go (leb (p + n) len) refl
+  took {answer} e = go (leb (p + n) len) refl
     where
-      go : (t : Bool) → leb (p + n) len ≡ t → Took len p n end
-      go true q = record { within = leb-true _ _ q; ends = cc (ap takenOutcome e) }
-      go false q = let z : _≡_ {A = ℕ} 0 1 = cc (ap takenOutcome e) in absurd (omega arith)
+      go : (t : Bool) → leb (p + n) len ≡ t → Took len p n passed answer
+      go true q = record { within = leb-true _ _ q; holds = cc }
+      go false q = let z : _≡_ {A = ℕ} 0 1 = cc in absurd (omega arith)
 
-  pub lacked : {r : Taken} {needed : Needed} → r ≡ Short needed → takenOutcome r ≡ takeOf len p n (p + n) → Lacked len p n needed
+  pub lacked : {number needed : ℕ} → refusal number needed ≡ takeOf len p n passed → Lacked len p n needed
   unfolding takeOf
-  lacked {needed = needed} e h = go (leb (p + n) len) refl
+  lacked {needed = needed} e = go (leb (p + n) len) refl
     where
       go : (t : Bool) → leb (p + n) len ≡ t → Lacked len p n needed
-      go true q = let z : _≡_ {A = ℕ} 0 1 = cc (ap takenOutcome e) in absurd (omega arith)
-      go false q = record { past = leb-false _ _ q; ends = cc (ap takenOutcome e) }
+      go true q = let z : _≡_ {A = ℕ} 0 1 = cc in absurd (omega arith)
+      go false q = record { past = leb-false _ _ q; ends = cc }
 
-  -- a call that passes a short take's answer on
-  pub short-on : {A : Type 0} (passed : A) {needed : Needed} → Lacked len p n needed → refusal 1 (lengthOf needed) ≡ takeOf len p n passed
-  short-on passed l = ap (refusal 1) (l .ends) ∙ falls-short len p n passed (l .past)
+module _ (needed : Needed) where
+  pub past-64 : needed .carry ≡ true → lengthOf needed ≡ needed .low + 2 ^ 64
+  past-64 e = rw e
+
+  pub within-64 : needed .carry ≡ false → lengthOf needed ≡ needed .low
+  within-64 e = rw e (omega arith)
 
 module _ (p n : ℕ) (block : List ℕ) where
   pub part-there : p + n ≤ length block → take n (drop p block) ≡ partOf p n block

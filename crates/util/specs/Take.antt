@@ -11,7 +11,7 @@ use Rattle.util.specs.declared.cur.Taken.the-variants as taken
 use Rattle.util.specs.declared.cur.Peeked.{Peeked}
 use Rattle.util.specs.declared.cur.Peeked.the-variants as peeked
 
--- The number that a `Needed` stands for.
+-- The number that a `Needed` stands for: 01's "want".
 abbrev pub lengthOf : Needed → ℕ
 lengthOf s = s .low + cond (s .carry) (2 ^ 64) 0
 

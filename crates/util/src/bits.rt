@@ -1,7 +1,7 @@
-// Extracting bit fields from unsigned integers.
+// Bit fields of unsigned integers.
 //
-// bits_T(x, lo, hi) is the number in the bits of x from lo up to hi, hi not included.
-// It is 0 unless lo < hi and hi is at most the width of T.
+// bits_T(x, lo, hi) is the number that stands in the bits of x from number lo on and below number hi. It is 0 unless lo < hi and hi is
+// at most the width of T.
 ghost use mathlib.Core.Path.{_≡_};
 ghost use Rattle.util.specs.Bits.{bits};
 

@@ -10,16 +10,15 @@ ghost use lib.ListN.{length};
 ghost use Rattle.util.specs.Number.{numberAt};
 ghost use Rattle.util.specs.Take.{lengthOf, takenOutcome, peekedOutcome, takeOf, partOf};
 
-// A length that may exceed 64 bits: low, and 2^64 more where carry is set.
+// The length that a short take needs, what document 01 calls its want. It may exceed 64 bits: it is low, and 2^64 more where carry is set.
 pub struct Needed {
     pub low: usize,
     pub carry: bool,
 }
 
 pub enum Taken {
-    // The bytes are there. They end before this position.
+    // The bytes are there, and end before this position.
     Whole(usize),
-    // The slice is short of this length.
     Short(Needed),
 }
 
@@ -46,16 +45,18 @@ fn end_of(pos: usize, n: usize) -> Needed
     }
 }
 
-// Whether buf holds n bytes at pos. No bytes are held at buf's end, and not beyond.
+// Whether buf holds n bytes at pos. A take of 0 bytes passes at buf's end, and not beyond it.
 pub fn take_at(buf: &[u8], pos: usize, n: usize) -> Taken
     ensures { λ r. ⌜ takenOutcome r ≡ takeOf (length (now (buf .entry))) pos n (pos + n) ⌝ }
 {
-    if pos <= buf.len() {
-        if n <= buf.len() - pos {
-            return Taken::Whole(pos + n);
-        }
+    let end = end_of(pos, n);
+    if end.carry {
+        return Taken::Short(end);
     }
-    Taken::Short(end_of(pos, n))
+    if buf.len() < end.low {
+        return Taken::Short(end);
+    }
+    Taken::Whole(end.low)
 }
 
 // The n bytes at pos, as the part of buf that they occupy, or the empty part where buf is short.
@@ -68,6 +69,7 @@ pub fn part_at(buf: &[u8], pos: usize, n: usize) -> &[u8]
     }
 }
 
+// The number of 1 byte at pos.
 pub fn peek_u8(buf: &[u8], pos: usize) -> Peeked
     ensures { λ r. ⌜ peekedOutcome r ≡ takeOf (length (now (buf .entry))) pos 1 (numberAt 1 pos (now (buf .entry))) ⌝ }
 {
@@ -77,6 +79,7 @@ pub fn peek_u8(buf: &[u8], pos: usize) -> Peeked
     }
 }
 
+// The little-endian number of 2 bytes at pos.
 pub fn peek_u16(buf: &[u8], pos: usize) -> Peeked
     ensures { λ r. ⌜ peekedOutcome r ≡ takeOf (length (now (buf .entry))) pos 2 (numberAt 2 pos (now (buf .entry))) ⌝ }
 {
@@ -86,6 +89,7 @@ pub fn peek_u16(buf: &[u8], pos: usize) -> Peeked
     }
 }
 
+// The little-endian number of 4 bytes at pos.
 pub fn peek_u32(buf: &[u8], pos: usize) -> Peeked
     ensures { λ r. ⌜ peekedOutcome r ≡ takeOf (length (now (buf .entry))) pos 4 (numberAt 4 pos (now (buf .entry))) ⌝ }
 {

@@ -4,8 +4,8 @@ use mathlib.Core.Path.{_≡_, refl, _∙_}
 use mathlib.Core.Bool.{not}
 use native.Mathlib.Omega.{arith}
 use lib.Dec.{eqb}
-use Rattle.util.proofs.Fields.{in-width}
 use borrow.Author.Needs.{needs}
+use Rattle.util.proofs.Fields.{in-width}
 use Rattle.nds.proofs.texture_params.bit.Statement.{statement}
 use Rattle.nds.proofs.texture_params.bit.Tie as tie
 
@@ -27,7 +27,8 @@ bits-u32-requires c κs = search needs
 returns : tie.Need-returns
 returns c =
     let a = c .before .args in
-    let e : c .bits-u32 .result ≡ a .x / 2 ^ a .k % 2 = c .bits-u32 .ensures ∙ (in-width 32 (a .x) (a .k) (a .k + 1) (omega arith) (omega arith) ∙ rw (one-bit (a .k))) in
+    let f = in-width 32 (a .x) (a .k) (a .k + 1) (omega arith) (omega arith) in
+    let e : c .bits-u32 .result ≡ a .x / 2 ^ a .k % 2 = c .bits-u32 .ensures ∙ (f ∙ rw (one-bit (a .k))) in
     rw e (not-zero (a .x / 2 ^ a .k % 2) (omega arith))
 
 pub bit-spec : {M : Type 1} → statement M

@@ -1,4 +1,5 @@
 -- `util::bits::bits_u32` meets its contract, by the laws of `bits` at width 32. Assumes nothing.
+use native.Mathlib.Omega.{arith}
 use borrow.Author.Needs.{needs}
 use Rattle.util.proofs.Fields.{shift-mask, no-bits, past-width}
 use Rattle.util.proofs.bits.bits_u32.Statement.{statement}
@@ -17,13 +18,13 @@ shr-result-2 : tie.Need-shr-result-2
 shr-result-2 c = search needs
 
 returns : tie.Need-returns
-returns c = shift-mask 32 _ _ _ (c .before .if1 .taken) (c .if2 .taken)
+returns c = let a = c .before .before .args in shift-mask 32 (a .x) (a .lo) (a .hi) (omega arith) (omega arith)
 
 returns-2 : tie.Need-returns-2
-returns-2 c = past-width 32 _ _ _ (c .before .if1 .taken) (c .if2 .left)
+returns-2 c = let a = c .before .before .args in past-width 32 (a .x) (a .lo) (a .hi) (omega arith) (omega arith)
 
 returns-3 : tie.Need-returns-3
-returns-3 c = no-bits 32 _ _ _ (c .if1 .left)
+returns-3 c = let a = c .before .args in no-bits 32 (a .x) (a .lo) (a .hi) (omega arith)
 
 pub bits-u32-spec : {M : Type 1} → statement M
 bits-u32-spec =

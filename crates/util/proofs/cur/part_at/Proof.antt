@@ -1,11 +1,12 @@
--- `util::cur::part_at` meets its contract: the case that `take_at` answers says whether the bytes are there, and where they end. Assumes nothing.
+-- `util::cur::part_at` meets its contract: the case that `take_at` answers says whether the bytes are there, and where they end.
+-- Assumes nothing.
+use Prim.Native.Nat.{_+_, _-_}
+use mathlib.Core.Path.{_≡_}
 use native.Mathlib.Omega.{arith}
 use lib.ListN.{length}
 use denote.Ref.{now}
-use Prim.Native.Nat.{_-_}
-use mathlib.Core.Path.{_≡_}
-use Rattle.util.proofs.Takes.{Took, took, lacked, part-there, part-none}
 use borrow.Author.Needs.{needs}
+use Rattle.util.proofs.Takes.{Took, took, lacked, part-there, part-none}
 use Rattle.util.proofs.cur.part_at.Statement.{statement}
 use Rattle.util.proofs.cur.part_at.Tie as tie
 
@@ -15,17 +16,18 @@ take-at-requires c κs = search needs
 enum-known-end : tie.Need-enum-known-end
 enum-known-end c = search needs
 
-ends : (c : tie.After-known-told) → Took (length (now (c .before .before .before .before .before .args .buf))) (c .before .before .before .before .before .args .pos) (c .before .before .before .before .before .args .n) (c .before .end .given .0 .0)
-ends c = took _ _ _ (c .before .end .given .1) (c .before .before .before .take-at .ensures)
+there : (c : tie.After-known-told)
+    → let a = c .before .before .before .before .before .args in Took (length (now (a .buf))) (a .pos) (a .n) (a .pos + a .n) (c .before .end .given .0 .0)
+there c = took _ _ _ _ (rw (c .before .end .given .1) at (c .before .before .before .take-at .ensures))
 
 sub-result : tie.Need-sub-result
-sub-result c = omega (arith, ends c)
+sub-result c = omega (arith, there c)
 
 part-result-start : tie.Need-part-result-start
-part-result-start c = omega (arith, ends c)
+part-result-start c = omega (arith, there c)
 
 part-result-end : tie.Need-part-result-end
-part-result-end c = omega (arith, ends c)
+part-result-end c = omega (arith, there c)
 
 enum-told : tie.Need-enum-told
 enum-told c = search needs
@@ -36,11 +38,11 @@ slice-aggregate-result c = search needs
 returns : tie.Need-returns
 returns c =
     let a = c .before .before .before .before .before .before .args in
-    let e : c .before .before .end .given .0 .0 - a .pos ≡ a .n = omega (arith, ends (c .before)) in
-    rw e (part-there _ _ _ (ends (c .before) .within))
+    let e : c .before .before .end .given .0 .0 - a .pos ≡ a .n = omega (arith, there (c .before)) in
+    rw e (part-there _ _ _ (there (c .before) .within))
 
 returns-2 : tie.Need-returns-2
-returns-2 c = part-none _ _ _ (lacked _ _ _ (c .before .enum-told .given .1) (c .before .before .before .take-at .ensures) .past)
+returns-2 c = part-none _ _ _ (lacked _ _ _ _ (rw (c .before .enum-told .given .1) at (c .before .before .before .take-at .ensures)) .past)
 
 pub part-at-spec : {M : Type 1} → statement M
 part-at-spec =

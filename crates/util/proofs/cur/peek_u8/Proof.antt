@@ -1,8 +1,9 @@
 -- `util::cur::peek_u8` meets its contract: the answer goes by the case of `take_at`. Assumes nothing.
 use mathlib.Core.Path.{ap, _∙_}
+use native.Mathlib.Omega.{arith}
 use borrow.Author.Needs.{needs}
-use Rattle.util.specs.Outcome.{result}
-use Rattle.util.proofs.Takes.{passes, took, lacked, short-on}
+use Rattle.util.specs.Outcome.{result, refusal}
+use Rattle.util.proofs.Takes.{passes, falls-short, took, lacked}
 use Rattle.util.proofs.cur.peek_u8.Statement.{statement}
 use Rattle.util.proofs.cur.peek_u8.Tie as tie
 
@@ -13,7 +14,7 @@ enum-told : tie.Need-enum-told
 enum-told c = search needs
 
 view-u8-requires : tie.Need-view-u8-requires
-view-u8-requires c κs = took _ _ _ (c .enum-told .given .1) (c .before .before .take-at .ensures) .within
+view-u8-requires c κs = omega (arith, took _ _ _ _ (rw (c .enum-told .given .1) at (c .before .before .take-at .ensures)))
 
 cast-t7 : tie.Need-cast-t7
 cast-t7 c = search needs
@@ -25,7 +26,9 @@ returns : tie.Need-returns
 returns c = ap result (c .view-u8 .ensures) ∙ passes _ _ _ _ (view-u8-requires (c .before) (c .view-u8 .lifetimes))
 
 returns-2 : tie.Need-returns-2
-returns-2 c = short-on _ _ _ _ (lacked _ _ _ (c .before .needed .given .1) (c .before .before .before .take-at .ensures))
+returns-2 c =
+    let l = lacked _ _ _ _ (rw (c .before .needed .given .1) at (c .before .before .before .take-at .ensures)) in
+    ap (refusal 1) (l .ends) ∙ falls-short _ _ _ _ (l .past)
 
 pub peek-u8-spec : {M : Type 1} → statement M
 peek-u8-spec =

@@ -1,22 +1,22 @@
 -- `util::view::view_u16` meets its contract: a number of 2 bytes, by those of its 2 bytes. Assumes nothing.
 use native.Mathlib.Omega.{arith}
 use denote.Ref.{now}
-use Rattle.util.proofs.Numbers.{number-add}
 use borrow.Author.Needs.{needs}
+use Rattle.util.proofs.Numbers.{number-add}
 use Rattle.util.proofs.view.view_u16.Statement.{statement}
 use Rattle.util.proofs.view.view_u16.Tie as tie
 
 view-u8-requires : tie.Need-view-u8-requires
 view-u8-requires c κs = search needs
 
-cast-result : tie.Need-cast-result
-cast-result c = search needs
-
 add-view-u8 : tie.Need-add-view-u8
 add-view-u8 c = search needs
 
 view-u8-requires-2 : tie.Need-view-u8-requires-2
 view-u8-requires-2 c κs = search needs
+
+cast-result : tie.Need-cast-result
+cast-result c = search needs
 
 cast-result-2 : tie.Need-cast-result-2
 cast-result-2 c = search needs
@@ -37,9 +37,9 @@ view-u16-spec =
     tie.close
     (tie.spec
     view-u8-requires
-    cast-result
     add-view-u8
     view-u8-requires-2
+    cast-result
     cast-result-2
     mul-result
     add-result

@@ -1,6 +1,6 @@
 -- `util::view::view_u8` meets its contract. Assumes nothing.
-use Rattle.util.proofs.Numbers.{number-one}
 use borrow.Author.Needs.{needs}
+use Rattle.util.proofs.Numbers.{number-one}
 use Rattle.util.proofs.view.view_u8.Statement.{statement}
 use Rattle.util.proofs.view.view_u8.Tie as tie
 

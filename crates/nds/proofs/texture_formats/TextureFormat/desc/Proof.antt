@@ -1,7 +1,8 @@
--- `nds::TextureFormat::desc` meets its contract: the table is `desc` at 0 to 7, as antt computes of the whole table, so row i is `desc i`. Assumes nothing.
+-- `nds::TextureFormat::desc` meets its contract. The whole table is the list of `desc` at 0 to 7: antt computes the one from the other
+-- where `entry` is used of the table. So row i is `desc i`. Assumes nothing.
+use borrow.Author.Needs.{needs}
 use Rattle.util.proofs.Table.{entry}
 use Rattle.nds.specs.Formats.{desc}
-use borrow.Author.Needs.{needs}
 use Rattle.nds.proofs.texture_formats.TextureFormat.desc.Statement.{statement}
 use Rattle.nds.proofs.texture_formats.TextureFormat.desc.Tie as tie
 

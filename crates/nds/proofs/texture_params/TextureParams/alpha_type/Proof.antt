@@ -2,11 +2,11 @@
 use Prim.Native.Nat.{ℕ}
 use mathlib.Core.Path.{_≡_, refl, sym, _∙_}
 use mathlib.Core.Bool.{Bool}
+use borrow.Author.Needs.{needs}
 use Rattle.nds.specs.Params as Params
 use Rattle.nds.specs.Formats.{alpha, alphaWith, desc}
 use Rattle.nds.specs.declared.texture_formats.AlphaDesc.{AlphaDesc}
 use Rattle.nds.specs.declared.texture_formats.FormatDesc.{FormatDesc}
-use borrow.Author.Needs.{needs}
 use Rattle.nds.proofs.texture_params.TextureParams.alpha_type.Statement.{statement}
 use Rattle.nds.proofs.texture_params.TextureParams.alpha_type.Tie as tie
 
@@ -47,10 +47,16 @@ returns-3 : tie.Need-returns-3
 returns-3 c = arm _ (c .before .before .before .format .ensures) (c .before .before .desc .ensures) (c .enum-told3 .given .1) refl
 
 returns-4 : tie.Need-returns-4
-returns-4 c = arm _ (c .before .before .before .before .before .format .ensures) (c .before .before .before .before .desc .ensures) (c .before .before .enum-told4 .given .1) (sym (c .if1 .taken) ∙ c .before .is-color0-transparent .ensures)
+returns-4 c =
+    let b = c .before .before .before .before in
+    arm _ (b .before .format .ensures) (b .desc .ensures) (c .before .before .enum-told4 .given .1)
+    (sym (c .if1 .taken) ∙ c .before .is-color0-transparent .ensures)
 
 returns-5 : tie.Need-returns-5
-returns-5 c = arm _ (c .before .before .before .before .before .format .ensures) (c .before .before .before .before .desc .ensures) (c .before .before .enum-told4 .given .1) (sym (c .if1 .left) ∙ c .before .is-color0-transparent .ensures)
+returns-5 c =
+    let b = c .before .before .before .before in
+    arm _ (b .before .format .ensures) (b .desc .ensures) (c .before .before .enum-told4 .given .1)
+    (sym (c .if1 .left) ∙ c .before .is-color0-transparent .ensures)
 
 pub alpha-type-spec : {M : Type 1} → statement M
 alpha-type-spec =

@@ -1,9 +1,9 @@
 -- `nds::TextureParams::byte_len` meets its contract. Assumes nothing.
-use Prim.Native.Nat.{_*_, _^_, _≤_}
 use native.Mathlib.Omega.{arith}
-use Rattle.nds.specs.Formats.{dataLength, desc}
-use Rattle.nds.proofs.Sizes.{area-le, bits-le}
+use mir.Facts.{fits-widen}
 use borrow.Author.Needs.{needs}
+use Rattle.nds.specs.Formats.{dataLength, desc}
+use Rattle.nds.proofs.Sizes.{width-le, height-le, area-lt, bits-lt}
 use Rattle.nds.proofs.texture_params.TextureParams.byte_len.Statement.{statement}
 use Rattle.nds.proofs.texture_params.TextureParams.byte_len.Tie as tie
 
@@ -20,23 +20,26 @@ height-requires : tie.Need-height-requires
 height-requires c κs = search needs
 
 mul-bit-len : tie.Need-mul-bit-len
-mul-bit-len c = rw (c .before .width .ensures, c .height .ensures) (omega (arith, area-le (c .before .before .before .before .args .self .0)))
+mul-bit-len c =
+    let w = c .before .before .before .before .args .self .0 in
+    record { fits = area-lt (omega (arith, width-le w, height-le w)) (omega (arith, width-le w, height-le w)) }
 
 cast-bit-len : tie.Need-cast-bit-len
 cast-bit-len c = search needs
 
-bits : (c : tie.After-struct-known) → c .before .before .width .result * c .before .height .result * c .before .before .before .desc .result .bpp ≤ 2 ^ 28
-bits c = rw (c .before .before .width .ensures, c .before .height .ensures) (bits-le _ (search needs))
-
 mul-bit-len-2 : tie.Need-mul-bit-len-2
-mul-bit-len-2 c = omega (arith, bits c)
+mul-bit-len-2 c =
+    let w = c .before .before .before .before .before .args .self .0 in
+    record { fits = bits-lt (omega (arith, width-le w, height-le w)) (omega (arith, width-le w, height-le w)) (search needs) }
 
 cast-result : tie.Need-cast-result
-cast-result c = omega (arith, bits c)
+cast-result c = fits-widen (search needs) (mul-bit-len-2 c)
 
 returns : tie.Need-returns
 unfolding dataLength desc
-returns c = rw (c .before .before .width .ensures, c .before .height .ensures, c .before .before .before .desc .ensures, c .before .before .before .before .format .ensures)
+returns c =
+    let b = c .before .before .before in
+    rw (c .before .before .width .ensures, c .before .height .ensures, b .desc .ensures, b .before .format .ensures)
 
 pub byte-len-spec : {M : Type 1} → statement M
 byte-len-spec =

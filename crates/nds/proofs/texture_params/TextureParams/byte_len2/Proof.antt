@@ -1,8 +1,8 @@
 -- `nds::TextureParams::byte_len2` meets its contract. Assumes nothing.
 use mathlib.Core.Path.{sym, _∙_}
 use borrow.Author.Tests.{eq-eqb, ne-eqb}
-use Rattle.nds.specs.Formats.{secondLength}
 use borrow.Author.Needs.{needs}
+use Rattle.nds.specs.Formats.{secondLength}
 use Rattle.nds.proofs.texture_params.TextureParams.byte_len2.Statement.{statement}
 use Rattle.nds.proofs.texture_params.TextureParams.byte_len2.Tie as tie
 

@@ -1,7 +1,7 @@
 -- `nds::TextureParams::height` meets its contract. Assumes nothing.
+use borrow.Author.Needs.{needs}
 use Rattle.nds.specs.Params.{height}
 use Rattle.nds.proofs.Sizes.{size-fits}
-use borrow.Author.Needs.{needs}
 use Rattle.nds.proofs.texture_params.TextureParams.height.Statement.{statement}
 use Rattle.nds.proofs.texture_params.TextureParams.height.Tie as tie
 

@@ -1,7 +1,7 @@
 -- `nds::TextureParams::width` meets its contract. Assumes nothing.
+use borrow.Author.Needs.{needs}
 use Rattle.nds.specs.Params.{width}
 use Rattle.nds.proofs.Sizes.{size-fits}
-use borrow.Author.Needs.{needs}
 use Rattle.nds.proofs.texture_params.TextureParams.width.Statement.{statement}
 use Rattle.nds.proofs.texture_params.TextureParams.width.Tie as tie
 
