@@ -16,9 +16,10 @@ pub record Took {A : Type 0} (len p n : ℕ) (passed answer : A) : Type 0 where
   pub within : p + n ≤ len
   pub holds : answer ≡ passed
 
--- a short take: its bytes would end at `needed`, which is past the length
-pub record Lacked (len p n needed : ℕ) : Type 0 where
+-- a short take: refusal 1, and its bytes would end at `needed`, which is past the length
+pub record Lacked (len p n number needed : ℕ) : Type 0 where
   pub past : len < p + n
+  pub one : number ≡ 1
   pub ends : needed ≡ p + n
 
 module _ {A : Type 0} (len p n : ℕ) (passed : A) where
@@ -39,13 +40,20 @@ module _ {A : Type 0} (len p n : ℕ) (passed : A) where
       go true q = record { within = leb-true _ _ q; holds = cc }
       go false q = let z : _≡_ {A = ℕ} 0 1 = cc in absurd (omega arith)
 
-  pub lacked : {number needed : ℕ} → refusal number needed ≡ takeOf len p n passed → Lacked len p n needed
+  pub lacked : {number needed : ℕ} → refusal number needed ≡ takeOf len p n passed → Lacked len p n number needed
   unfolding takeOf
-  lacked {needed = needed} e = go (leb (p + n) len) refl
+  lacked {number} {needed} e = go (leb (p + n) len) refl
     where
-      go : (t : Bool) → leb (p + n) len ≡ t → Lacked len p n needed
+      go : (t : Bool) → leb (p + n) len ≡ t → Lacked len p n number needed
       go true q = let z : _≡_ {A = ℕ} 0 1 = cc in absurd (omega arith)
-      go false q = record { past = leb-false _ _ q; ends = cc }
+      go false q = record { past = leb-false _ _ q; one = cc; ends = cc }
+
+-- a refusal of a take is one of the same take whatever it answers when it passes
+pub same-short : {A B : Type 0} (len p n : ℕ) (passed : A) (other : B) {number needed : ℕ}
+    → refusal number needed ≡ takeOf len p n passed → refusal number needed ≡ takeOf len p n other
+same-short len p n passed other e =
+    let l = lacked len p n passed e in
+    cc (falls-short len p n other (l .past))
 
 module _ (needed : Needed) where
   pub past-64 : needed .carry ≡ true → lengthOf needed ≡ needed .low + 2 ^ 64
