@@ -5,8 +5,8 @@ use mathlib.Core.Bool.{Bool}
 use lib.Dec.{eqb}
 
 -- Bit k is set.
-abbrev pub isSet : (k w : ℕ) → Bool
-isSet k w = eqb (w / 2 ^ k % 2) 1
+abbrev pub hasBit : (k w : ℕ) → Bool
+hasBit k w = eqb (w / 2 ^ k % 2) 1
 
 -- "0 to 15 offset in units of 8": in bytes.
 abbrev pub offset : ℕ → ℕ
@@ -14,17 +14,17 @@ offset w = w % 2 ^ 16 * 8
 
 -- "16 and 17 repeat in S and T"
 abbrev pub repeatS : ℕ → Bool
-repeatS w = isSet 16 w
+repeatS w = hasBit 16 w
 
 abbrev pub repeatT : ℕ → Bool
-repeatT w = isSet 17 w
+repeatT w = hasBit 17 w
 
 -- "18 and 19 mirror in S and T"
 abbrev pub mirrorS : ℕ → Bool
-mirrorS w = isSet 18 w
+mirrorS w = hasBit 18 w
 
 abbrev pub mirrorT : ℕ → Bool
-mirrorT w = isSet 19 w
+mirrorT w = hasBit 19 w
 
 -- "width is 8 shifted left by bits 20 to 22": in texels.
 unfoldable pub width : ℕ → ℕ
@@ -40,7 +40,7 @@ format w = w / 2 ^ 26 % 2 ^ 3
 
 -- "29 colour 0 clear"
 abbrev pub color0Transparent : ℕ → Bool
-color0Transparent w = isSet 29 w
+color0Transparent w = hasBit 29 w
 
 -- "30 and 31 transform mode"
 abbrev pub transformMode : ℕ → ℕ

@@ -13,7 +13,7 @@ pub struct TextureParams(pub u32);
 // Whether the bit of number k is set.
 fn bit(x: u32, k: u32) -> bool
     requires { ⌜ k < 32 ⌝ }
-    ensures { λ r. ⌜ r ≡ Params.isSet k x ⌝ }
+    ensures { λ r. ⌜ r ≡ Params.hasBit k x ⌝ }
 {
     bits_u32(x, k, k + 1) != 0
 }

@@ -1,4 +1,4 @@
-// What a texture does beyond its edges, along one axis.
+// Wrap words: what a texture does beyond its edges, along one axis.
 ghost use mathlib.Core.Path.{_≡_};
 ghost use Rattle.nds.specs.Wrap.{wrapOf};
 
@@ -8,13 +8,15 @@ pub enum Wrap {
     Mirror,
 }
 
-// By the axis's repeat bit and mirror bit.
+// The wrap word of an axis, by its repeat bit and its mirror bit.
 pub fn wrap_axis(repeat: bool, mirror: bool) -> Wrap
     ensures { λ r. ⌜ r ≡ wrapOf repeat mirror ⌝ }
 {
     if mirror {
         Wrap::Mirror
+    } else if repeat {
+        Wrap::Repeat
     } else {
-        if repeat { Wrap::Repeat } else { Wrap::Clamp }
+        Wrap::Clamp
     }
 }

@@ -7,15 +7,15 @@ use lib.ListN.{getD}
 
 module _ {A : Type 0} (f : ℕ → A) where
   -- f at the n numbers from i on
-  abbrev pub entries : (i n : ℕ) → List A
-  entries i zero = []
-  entries i (suc n) = f i ∷ entries (suc i) n
+  abbrev pub tabulate : (i n : ℕ) → List A
+  tabulate i zero = []
+  tabulate i (suc n) = f i ∷ tabulate (suc i) n
 
-  entries-from : (i n k : ℕ) (d : A) → k < n → getD (entries i n) k d ≡ f (i + k)
-  entries-from i zero k d h = absurd (not-suc-le-zero h)
-  entries-from i (suc n) zero d h = rw add-zero
-  entries-from i (suc n) (suc k) d h = entries-from (suc i) n k d (le-of-suc-le-suc h) ∙ rw (suc-add, add-suc)
+  tabulated-from : (i n k : ℕ) (d : A) → k < n → getD (tabulate i n) k d ≡ f (i + k)
+  tabulated-from i zero k d h = absurd (not-suc-le-zero h)
+  tabulated-from i (suc n) zero d h = rw add-zero
+  tabulated-from i (suc n) (suc k) d h = tabulated-from (suc i) n k d (le-of-suc-le-suc h) ∙ rw (suc-add, add-suc)
 
-  -- a table that is `entries 0 n` has f k at k
-  pub entry : (n k : ℕ) (d : A) → k < n → getD (entries 0 n) k d ≡ f k
-  entry n k d h = entries-from 0 n k d h ∙ rw zero-add
+  -- a table that is `tabulate 0 n` has f k at k
+  pub tabulated : (n k : ℕ) (d : A) → k < n → getD (tabulate 0 n) k d ≡ f k
+  tabulated n k d h = tabulated-from 0 n k d h ∙ rw zero-add

@@ -1,4 +1,4 @@
--- The laws of `takeOf`, `partOf` and `lengthOf`. Assumes nothing.
+-- The laws of `takeOf`, `takenPart` and `lengthOf`. Assumes nothing.
 use Prim.Native.Nat.{ℕ, _+_, _^_, _≤_, _<_}
 use mathlib.Core.Path.{_≡_, refl}
 use mathlib.Core.Bool.{Bool, true, false}
@@ -8,7 +8,7 @@ use lib.ListN.{length, take, drop}
 use lib.Dec.{leb}
 use borrow.Author.Tests.{le-leb, lt-leb, leb-true, leb-false}
 use Rattle.util.specs.Outcome.{result, refusal}
-use Rattle.util.specs.Take.{lengthOf, takeOf, partOf}
+use Rattle.util.specs.Take.{lengthOf, takeOf, takenPart}
 use Rattle.util.specs.declared.cur.Needed.{Needed}
 
 -- a take that passed: its bytes are there, and its answer is `passed`
@@ -63,10 +63,10 @@ module _ (needed : Needed) where
   within-64 e = rw e (omega arith)
 
 module _ (p n : ℕ) (block : List ℕ) where
-  pub part-there : p + n ≤ length block → take n (drop p block) ≡ partOf p n block
-  unfolding partOf
+  pub part-there : p + n ≤ length block → take n (drop p block) ≡ takenPart p n block
+  unfolding takenPart
   part-there h = rw (le-leb (p + n) (length block) h)
 
-  pub part-none : length block < p + n → [] ≡ partOf p n block
-  unfolding partOf
+  pub part-none : length block < p + n → [] ≡ takenPart p n block
+  unfolding takenPart
   part-none h = rw (lt-leb (p + n) (length block) h)

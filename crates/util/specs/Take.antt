@@ -31,5 +31,5 @@ unfoldable pub takeOf : {A : Type 0} (len p n : ℕ) (passed : A) → Outcome A
 takeOf len p n passed = cond (leb (p + n) len) (result passed) (refusal 1 (p + n))
 
 -- The part that a take hands out. 01, "When a call is declined": "A declined data part is empty".
-unfoldable pub partOf : (p n : ℕ) → List ℕ → List ℕ
-partOf p n block = cond (leb (p + n) (length block)) (take n (drop p block)) []
+unfoldable pub takenPart : (p n : ℕ) → List ℕ → List ℕ
+takenPart p n block = cond (leb (p + n) (length block)) (take n (drop p block)) []

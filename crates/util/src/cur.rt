@@ -8,7 +8,7 @@ ghost use mathlib.Core.Path.{_≡_};
 ghost use Prim.Native.Nat.{_+_};
 ghost use lib.ListN.{length};
 ghost use Rattle.util.specs.Number.{numberAt};
-ghost use Rattle.util.specs.Take.{lengthOf, takenOutcome, peekedOutcome, takeOf, partOf};
+ghost use Rattle.util.specs.Take.{lengthOf, takenOutcome, peekedOutcome, takeOf, takenPart};
 
 // The length that a short take needs, what document 01 calls its want. It may exceed 64 bits: it is low, and 2^64 more where carry is set.
 pub struct Needed {
@@ -61,7 +61,7 @@ pub fn take_at(buf: &[u8], pos: usize, n: usize) -> Taken
 
 // The n bytes at pos, as the part of buf that they occupy, or the empty part where buf is short.
 pub fn part_at(buf: &[u8], pos: usize, n: usize) -> &[u8]
-    ensures { λ r. ⌜ now r ≡ partOf pos n (now (buf .entry)) ⌝ }
+    ensures { λ r. ⌜ now r ≡ takenPart pos n (now (buf .entry)) ⌝ }
 {
     match take_at(buf, pos, n) {
         Taken::Whole(end) => &buf[pos..end],

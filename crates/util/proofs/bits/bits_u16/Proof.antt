@@ -1,4 +1,4 @@
--- `util::bits::bits_u16` meets its contract, by the laws of `bits` at width 16. Assumes nothing.
+-- `util::bits::bits_u16` meets its contract, by the laws of `bitField` at width 16. Assumes nothing.
 use native.Mathlib.Omega.{arith}
 use borrow.Author.Needs.{needs}
 use Rattle.util.proofs.Fields.{shift-mask, no-bits, past-width}

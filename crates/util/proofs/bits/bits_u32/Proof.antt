@@ -1,4 +1,4 @@
--- `util::bits::bits_u32` meets its contract, by the laws of `bits` at width 32. Assumes nothing.
+-- `util::bits::bits_u32` meets its contract, by the laws of `bitField` at width 32. Assumes nothing.
 use native.Mathlib.Omega.{arith}
 use borrow.Author.Needs.{needs}
 use Rattle.util.proofs.Fields.{shift-mask, no-bits, past-width}
