@@ -1,6 +1,6 @@
 -- The laws of `takeOf`, `takenPart` and `lengthOf`. Assumes nothing.
 use Prim.Native.Nat.{ℕ, _+_, _^_, _≤_, _<_}
-use mathlib.Core.Path.{_≡_, refl}
+use mathlib.Core.Path.{_≡_, refl, sym}
 use mathlib.Core.Bool.{Bool, true, false}
 use mathlib.Core.List.{List, []}
 use native.Mathlib.Omega.{arith}
@@ -61,6 +61,14 @@ module _ (needed : Needed) where
 
   pub within-64 : needed .carry ≡ false → lengthOf needed ≡ needed .low
   within-64 e = rw e (omega arith)
+
+  -- a length that fits 64 bits is its low part: what a caller whose positions are small learns
+  pub low-exact : lengthOf needed < 2 ^ 64 → needed .low ≡ lengthOf needed
+  low-exact h = go (needed .carry) refl
+    where
+      go : (t : Bool) → needed .carry ≡ t → needed .low ≡ lengthOf needed
+      go true e = absurd (omega (arith, past-64 e))
+      go false e = sym (within-64 e)
 
 module _ (p n : ℕ) (block : List ℕ) where
   pub part-there : p + n ≤ length block → take n (drop p block) ≡ takenPart p n block
