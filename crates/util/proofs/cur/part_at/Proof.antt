@@ -1,9 +1,9 @@
 -- `util::cur::part_at` meets its contract: the case that `take_at` answers says whether the bytes are there, and where they end.
 -- Assumes nothing.
 use Prim.Native.Nat.{_+_, _-_}
-use mathlib.Core.Path.{_≡_}
+use mathlib.Core.Path.{_≡_, ap, _∙_}
 use native.Mathlib.Omega.{arith}
-use lib.ListN.{length}
+use lib.ListN.{length, take, drop}
 use denote.Ref.{now}
 use borrow.Author.Needs.{needs}
 use Rattle.util.proofs.Takes.{Took, took, lacked, part-there, part-none}
@@ -39,7 +39,7 @@ returns : tie.Need-returns
 returns c =
     let a = c .before .before .before .before .before .before .args in
     let e : c .before .before .end .given .0 .0 - a .pos ≡ a .n = omega (arith, there (c .before)) in
-    rw e (part-there _ _ _ (there (c .before) .within))
+    ap (λ k. take k (drop (a .pos) (now (a .buf)))) e ∙ part-there _ _ _ (there (c .before) .within)
 
 returns-2 : tie.Need-returns-2
 returns-2 c = part-none _ _ _ (lacked _ _ _ _ (rw (c .before .enum-told .given .1) at (c .before .before .before .take-at .ensures)) .past)

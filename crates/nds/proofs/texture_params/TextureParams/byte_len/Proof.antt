@@ -1,8 +1,10 @@
 -- `nds::TextureParams::byte_len` meets its contract. Assumes nothing.
+use mathlib.Core.Path.{ap}
 use native.Mathlib.Omega.{arith}
 use mir.Facts.{fits-widen}
 use borrow.Author.Needs.{needs}
 use Rattle.nds.specs.Formats.{dataLength, desc}
+use Rattle.nds.specs.declared.texture_formats.FormatDesc.{FormatDesc}
 use Rattle.nds.proofs.Sizes.{width-le, height-le, area-lt, bits-lt}
 use Rattle.nds.proofs.texture_params.TextureParams.byte_len.Statement.{statement}
 use Rattle.nds.proofs.texture_params.TextureParams.byte_len.Tie as tie
@@ -39,7 +41,7 @@ returns : tie.Need-returns
 unfolding dataLength desc
 returns c =
     let b = c .before .before .before in
-    rw (c .before .before .width .ensures, c .before .height .ensures, b .desc .ensures, b .before .format .ensures)
+    cc (ap (λ (d : FormatDesc). d .bpp) (b .desc .ensures))
 
 pub byte-len-spec : {M : Type 1} → statement M
 byte-len-spec =
