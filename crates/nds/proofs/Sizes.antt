@@ -1,11 +1,13 @@
 -- The laws of a texture word's sizes. Assumes nothing.
-use Prim.Native.Nat.{ℕ, _*_, _%_, _^_, _≤_, _<_}
-use mathlib.Core.Path.{_≡_}
+use Prim.Native.Nat.{ℕ, zero, suc, _*_, _%_, _^_, _≤_, _<_}
+use mathlib.Core.Path.{_≡_, refl}
+use mathlib.Core.Bool.{Bool, true, false}
 use native.Mathlib.Omega.{arith}
 use native.Mathlib.Nat.{le-of-lt, lt-of-le-of-lt, mul-le-mul, mul-le-mul-left}
-use lib.Dec.{lit<}
+use lib.Dec.{lit<, eqb}
 use lib.Pow.{pow-mono, shl-exact}
-use Rattle.nds.specs.Params.{width, height}
+use Rattle.nds.specs.Params.{width, height, format}
+use Rattle.nds.specs.Formats.{bitsPerTexel, dataLength, secondLength}
 
 module _ (x : ℕ) where
   -- 8 shifted left by three bits loses nothing at 32 bits
@@ -31,3 +33,28 @@ module _ {a b : ℕ} (ha : a ≤ 1024) (hb : b ≤ 1024) where
 
   pub bits-lt : {bpp : ℕ} → bpp < 2 ^ 8 → a * b * bpp < 2 ^ 32
   bits-lt h = lt-of-le-of-lt (mul-le-mul {n₂ = 1024 * 1024} {m₂ = 2 ^ 8} (mul-le-mul ha hb) (le-of-lt h)) (lit< tt)
+
+bits-small : (f : ℕ) → bitsPerTexel f < 2 ^ 8
+bits-small zero = lit< tt
+bits-small (suc zero) = lit< tt
+bits-small (suc (suc zero)) = lit< tt
+bits-small (suc (suc (suc zero))) = lit< tt
+bits-small (suc (suc (suc (suc zero)))) = lit< tt
+bits-small (suc (suc (suc (suc (suc zero))))) = lit< tt
+bits-small (suc (suc (suc (suc (suc (suc zero)))))) = lit< tt
+bits-small (suc (suc (suc (suc (suc (suc (suc zero))))))) = lit< tt
+bits-small (suc (suc (suc (suc (suc (suc (suc (suc f)))))))) = lit< tt
+
+-- the lengths of a word's data
+module _ (w : ℕ) where
+  pub data-length-lt : dataLength w < 2 ^ 32
+  unfolding dataLength
+  data-length-lt = omega (arith, bits-lt (width-le w) (height-le w) (bits-small (format w)))
+
+  pub second-length-lt : secondLength w < 2 ^ 32
+  unfolding secondLength
+  second-length-lt = go (eqb (format w) 5) refl
+    where
+      go : (t : Bool) → eqb (format w) 5 ≡ t → secondLength w < 2 ^ 32
+      go true e = rw e (omega (arith, data-length-lt))
+      go false e = rw e (lit< tt)

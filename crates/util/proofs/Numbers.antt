@@ -7,6 +7,7 @@ use native.Mathlib.Nat.{pow-zero, pow-suc, mul-assoc, mul-comm, one-mul}
 use lib.ListN.{length, take, drop, getD, length-drop}
 use lib.Seq.{take-add, drop-drop, drop-cons, length-take-le}
 use Rattle.util.specs.Number.{littleEndian, numberAt}
+use Rattle.util.proofs.Parts.{part-of-part}
 
 -- the bytes behind m others count 256 ^ m times
 little-append : (xs ys : List ℕ) → littleEndian (xs ++ ys) ≡ littleEndian xs + 256 ^ length xs * littleEndian ys
@@ -29,3 +30,8 @@ module _ (p : ℕ) (b : List ℕ) where
       sym
       (ap littleEndian (take-add m n (drop p b))
       ∙ (little-append (take m (drop p b)) (take n (drop m (drop p b))) ∙ rw (e, drop-drop m p b)))
+
+-- a number of `size` bytes at p of the m bytes at q
+pub number-in-part : (size p q m : ℕ) (b : List ℕ) → p + size ≤ m → numberAt size p (take m (drop q b)) ≡ numberAt size (q + p) b
+unfolding numberAt
+number-in-part size p q m b h = ap littleEndian (part-of-part p size q m b h)

@@ -1,7 +1,7 @@
 -- The laws of `takeOf`, `takenPart` and `lengthOf`. Assumes nothing.
 use Prim.Native.Nat.{ℕ, _+_, _^_, _≤_, _<_}
 use mathlib.Core.Path.{_≡_, refl, sym}
-use mathlib.Core.Bool.{Bool, true, false}
+use mathlib.Core.Bool.{Bool, true, false, cond}
 use mathlib.Core.List.{List, []}
 use native.Mathlib.Omega.{arith}
 use lib.ListN.{length, take, drop}
@@ -78,3 +78,12 @@ module _ (p n : ℕ) (block : List ℕ) where
   pub part-none : length block < p + n → [] ≡ takenPart p n block
   unfolding takenPart
   part-none h = rw (lt-leb (p + n) (length block) h)
+
+-- no bytes, wherever they are said to stand
+pub part-empty : (p : ℕ) (block : List ℕ) → takenPart p 0 block ≡ []
+unfolding takenPart
+part-empty p block = go (leb (p + 0) (length block))
+  where
+    go : (t : Bool) → cond t (take 0 (drop p block)) [] ≡ []
+    go true = refl
+    go false = refl

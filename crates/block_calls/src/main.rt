@@ -1,0 +1,202 @@
+// Writes what the calls of `nitro` answer for each block of its standard input, a line a call. A block is preceded by its length, in 4
+// bytes.
+use libc::STDIN_FILENO;
+use libc::STDOUT_FILENO;
+use nds::texture_formats::Alpha;
+use nds::wrap::Wrap;
+use nitro::errors::Counted;
+use nitro::errors::Kind;
+use nitro::errors::Refusal;
+use nitro::errors::Status;
+use nitro::name::Name;
+use nitro::tex;
+use nitro::tex::Reading;
+use util::cur::Peeked;
+use util::cur::Taken;
+use util::cur::part_at;
+use util::cur::peek_u32;
+use util::cur::take_at;
+
+fn text(bytes: &[u8]) {
+    io::write_all(STDOUT_FILENO, bytes);
+}
+
+fn number(n: u64) {
+    text(b" ");
+    io::print_decimal(STDOUT_FILENO, n);
+}
+
+// A texture's number where the kind is a texture, and else a palette's.
+fn by_kind(kind: Kind, texture: u64, palette: u64) -> u64 {
+    match kind {
+        Kind::Texture => texture,
+        Kind::Palette => palette,
+    }
+}
+
+fn refused(refusal: Refusal) {
+    text(b" refused");
+    match refusal {
+        Refusal::Short(needed) => {
+            number(1);
+            number(needed as u64);
+        }
+        Refusal::Stamp => number(2),
+        Refusal::Dummy(kind) => number(by_kind(kind, 3, 5)),
+        Refusal::DatumSize(kind) => number(by_kind(kind, 4, 6)),
+        Refusal::Number(kind) => number(by_kind(kind, 7, 8)),
+        Refusal::Output => number(11),
+    }
+}
+
+fn status(s: Status) {
+    match s {
+        Status::Done => text(b" done"),
+        Status::Refused(refusal) => refused(refusal),
+    }
+}
+
+fn wrap(w: Wrap) {
+    match w {
+        Wrap::Clamp => text(b" clamp"),
+        Wrap::Repeat => text(b" repeat"),
+        Wrap::Mirror => text(b" mirror"),
+    }
+}
+
+fn alpha(a: Alpha) {
+    match a {
+        Alpha::Opaque => text(b" opaque"),
+        Alpha::Transparent => text(b" transparent"),
+        Alpha::Translucent => text(b" translucent"),
+    }
+}
+
+// A part's length, and its bytes in hex.
+fn part(bytes: &[u8]) {
+    number(bytes.len() as u64);
+    text(b" ");
+    let mut i = 0;
+    while i < bytes.len() {
+        io::print_hex(STDOUT_FILENO, bytes[i] as u64, 2);
+        i += 1;
+    }
+}
+
+// What a name call answered, and all of its output.
+fn written(c: Counted, out: &[u8]) {
+    match c {
+        Counted::Count(n) => number(n as u64),
+        Counted::Refused(refusal) => refused(refusal),
+    }
+    text(b" ");
+    text(out);
+}
+
+// Both texts of a name, in an output that holds any text and in one of three bytes.
+fn texts(name: Name) {
+    let mut safe = [b'.'; 32];
+    let mut display = [b'-'; 32];
+    let mut short_safe = [b'.'; 3];
+    let mut short_display = [b'-'; 3];
+    text(b"safe");
+    written(name.print_safe(&mut safe), &safe);
+    text(b"\nsafe");
+    written(name.print_safe(&mut short_safe), &short_safe);
+    text(b"\ndisplay");
+    written(name.display(&mut display), &display);
+    text(b"\ndisplay");
+    written(name.display(&mut short_display), &short_display);
+    text(b"\n");
+}
+
+// A record's name, as it stands in the block.
+fn raw(name: Name) {
+    let bytes = name.0;
+    part(&bytes);
+}
+
+fn textures(block: &[u8], n: usize) {
+    text(b"texture");
+    number(n as u64);
+    let answer = tex::texture(block, n);
+    status(answer.status);
+    let record = answer.texture;
+    let params = record.params;
+    number(params.0 as u64);
+    wrap(record.wrap_s);
+    wrap(record.wrap_t);
+    alpha(record.alpha);
+    raw(record.name);
+    text(b"\ndata1");
+    part(tex::texture_data1(block, n));
+    text(b"\ndata2");
+    part(tex::texture_data2(block, n));
+    text(b"\n");
+}
+
+fn palettes(block: &[u8], n: usize) {
+    text(b"palette");
+    number(n as u64);
+    let answer = tex::palette(block, n);
+    status(answer.status);
+    let record = answer.palette;
+    number(record.off as u64);
+    raw(record.name);
+    text(b"\n");
+}
+
+fn show(block: &[u8]) {
+    text(b"block");
+    number(block.len() as u64);
+    text(b"\nreading");
+    match tex::read_tex(block) {
+        Reading::Counts(textures, palettes) => {
+            number(textures as u64);
+            number(palettes as u64);
+        }
+        Reading::Refused(refusal) => refused(refusal),
+    }
+    text(b"\npal_block");
+    part(tex::pal_block(block));
+    text(b"\n");
+    textures(block, 0);
+    textures(block, 1);
+    textures(block, 2);
+    textures(block, 18446744073709551615);
+    palettes(block, 0);
+    palettes(block, 1);
+    palettes(block, 18446744073709551615);
+    let first = tex::texture(block, 0);
+    let record = first.texture;
+    texts(record.name);
+}
+
+// Shows the block whose length stands at pos, and answers where the next one begins, or the input's length where there is none.
+fn show_at(input: &[u8], pos: usize) -> usize {
+    let len = match peek_u32(input, pos) {
+        Peeked::Number(len) => len as usize,
+        Peeked::Short(_) => return input.len(),
+    };
+    match take_at(input, pos + 4, len) {
+        Taken::Whole(end) => {
+            show(part_at(input, pos + 4, len));
+            end
+        }
+        Taken::Short(_) => input.len(),
+    }
+}
+
+fn main() {
+    let mut buffer = io::large_buffer();
+    let n = io::read_full(STDIN_FILENO, &mut buffer);
+    let mut pos = 0;
+    let mut turns = 1000;
+    while 0 < turns {
+        if pos == n {
+            return;
+        }
+        pos = show_at(&buffer[..n], pos);
+        turns -= 1;
+    }
+}

@@ -1,0 +1,156 @@
+-- The laws of what the calls answer. Assumes nothing.
+use Prim.Native.Nat.{ℕ, zero, suc, _+_, _≤_, _<_}
+use mathlib.Core.Path.{_≡_, refl, sym, ap, _∙_, subst}
+use mathlib.Core.Bool.{Bool, true, false}
+use mathlib.Core.List.{List, [], _∷_}
+use native.Mathlib.Nat.{le-of-suc-le-suc, not-suc-le-zero}
+use native.Mathlib.Omega.{arith}
+use lib.ListN.{length, getD, take}
+use lib.Dec.{ltb}
+use borrow.Author.Tests.{ltb-true, ltb-false, lt-ltb, le-ltb}
+use Rattle.util.specs.Outcome.{Outcome, result, refusal}
+use Rattle.nitro.specs.Refusal.{absentNumber, refusalOutcome}
+use Rattle.nitro.specs.Script.{Answer, short, fault, whole, run, outcomeOf}
+use Rattle.nitro.specs.InfoBlock.{listAt, listLength}
+use Rattle.nitro.specs.Tex as Tex
+use Rattle.nitro.specs.Tex.{Contents, headerOf, readTex}
+use Rattle.nitro.specs.Calls.{Counts, Answers, entry, textureEntry, paletteEntry, valueOr, countOf, layoutOf, readingOf, layoutWith}
+use Rattle.nitro.specs.declared.errors.Kind.{Kind}
+use Rattle.nitro.specs.declared.errors.Kind.the-variants as kinds
+use Rattle.nitro.specs.declared.errors.Refusal.{Refusal}
+use Rattle.nitro.specs.declared.errors.Refusal.the-variants.{Short, Stamp, Dummy, DatumSize, Number, Output}
+use Rattle.nitro.specs.declared.errors.Status.the-variants.{Done, Refused}
+use Rattle.nitro.specs.declared.tex.Layout.{Layout}
+use Rattle.nitro.proofs.Runs.{whole-outcome, refusal-not, refusal-any}
+use Rattle.nitro.proofs.Readings.{TextureAt, finished, textures-listed, palettes-listed}
+
+-- entry n of a list, and none
+module _ {A B : Type 0} (k : Kind) (f : A → B) where
+  pub entry-in : (xs : List A) (n : ℕ) (d : A) → n < length xs → entry k f xs n ≡ result (f (getD xs n d))
+  unfolding entry
+  entry-in [] n d h = absurd (not-suc-le-zero h)
+  entry-in (x ∷ xs) zero d h = refl
+  entry-in (x ∷ xs) (suc n) d h = entry-in xs n d (le-of-suc-le-suc h)
+
+  pub entry-out : (xs : List A) (n : ℕ) → length xs ≤ n → entry k f xs n ≡ refusal (absentNumber k) 0
+  unfolding entry
+  entry-out [] n h = refl
+  entry-out (x ∷ xs) zero h = absurd (not-suc-le-zero h)
+  entry-out (x ∷ xs) (suc n) h = entry-out xs n (le-of-suc-le-suc h)
+
+-- a refusal leaves the blank
+pub value-refused : {A : Type 0} (blank : A) (r : Refusal) → blank ≡ valueOr blank (refusalOutcome r)
+value-refused blank (Short w) = refl
+value-refused blank Stamp = refl
+value-refused blank (Dummy k) = refl
+value-refused blank (DatumSize k) = refl
+value-refused blank (Number k) = refl
+value-refused blank Output = refl
+
+-- a status with its record beside it
+module _ {A : Type 0} (blank : A) {answer : Outcome A} {beside : A} where
+  pub answers-done : result beside ≡ answer → Answers blank answer Done beside
+  answers-done e = record { outcome = e; value = ap (valueOr blank) e }
+
+  pub answers-refused : (r : Refusal) → beside ≡ blank → refusalOutcome r ≡ answer → Answers blank answer (Refused r) beside
+  answers-refused r b e = record { outcome = e; value = b ∙ (value-refused blank r ∙ ap (valueOr blank) e) }
+
+-- a layout that was found: the reading finished, and its list has the entry
+pub record Found (k : Kind) (n : ℕ) (b : List ℕ) (a : Answer Contents) (l : Layout) : Type 0 where
+  pub contents : Contents
+  pub is : a ≡ whole contents
+  pub laid : l ≡ layoutOf b contents
+  pub below : n < countOf k (layoutOf b contents)
+
+pub found : (k : Kind) (n : ℕ) (b : List ℕ) (a : Answer Contents) {l : Layout} → result l ≡ layoutWith k n b a → Found k n b a l
+unfolding layoutWith outcomeOf
+found k n b (short w) e = let z : _≡_ {A = ℕ} 0 1 = cc in absurd (omega arith)
+found k n b (fault w) e = let z : _≡_ {A = ℕ} 0 1 = cc in absurd (omega arith)
+found k n b (whole c) {l} e = go (ltb n (countOf k (layoutOf b c))) refl
+  where
+    go : (t : Bool) → ltb n (countOf k (layoutOf b c)) ≡ t → Found k n b (whole c) l
+    go true q = record { contents = c; is = refl; laid = cc (rw q at e); below = ltb-true _ _ q }
+    go false q = let z : _≡_ {A = ℕ} 0 1 = cc (rw q at e) in absurd (omega arith)
+
+-- a finished reading, as a layout and as counts
+module _ (b : List ℕ) {a : Answer Contents} {c : Contents} {l : Layout} (is : a ≡ whole c) (laid : l ≡ layoutOf b c) where
+  pub reading-laid : result (record { textures = l .textures; palettes = l .palettes }) ≡ readingOf a
+  unfolding readingOf outcomeOf
+  reading-laid = rw (is, laid)
+
+  pub with-entry : (k : Kind) (n : ℕ) → n < countOf k l → result l ≡ layoutWith k n b a
+  unfolding layoutWith outcomeOf
+  with-entry k n h = rw (is, laid, lt-ltb n (countOf k (layoutOf b c)) (rw laid at h))
+
+  pub without-entry : (k : Kind) (n : ℕ) → countOf k l ≤ n → refusal (absentNumber k) 0 ≡ layoutWith k n b a
+  unfolding layoutWith outcomeOf
+  without-entry k n h = rw (is, le-ltb n (countOf k (layoutOf b c)) (rw laid at h))
+
+-- and one that was not: the refusal is that of entry n, whatever is made of the entry
+module _ {A B : Type 0} (k : Kind) (n : ℕ) (b : List ℕ) (list : Contents → List A) (f : A → B)
+    (counts : (c : Contents) → countOf k (layoutOf b c) ≡ length (list c)) (r : Refusal) where
+  pub no-entry : (a : Answer Contents) → refusalOutcome r ≡ layoutWith k n b a → refusalOutcome r ≡ outcomeOf a (λ c. entry k f (list c) n)
+  unfolding layoutWith outcomeOf
+  no-entry (short w) e = refusal-any r e
+  no-entry (fault w) e = refusal-any r e
+  no-entry (whole c) e = go (ltb n (countOf k (layoutOf b c))) refl
+    where
+      go : (t : Bool) → ltb n (countOf k (layoutOf b c)) ≡ t → refusalOutcome r ≡ entry k f (list c) n
+      go true q = absurd (refusal-not r (rw q at e))
+      go false q = refusal-any r (rw q at e) ∙ sym (entry-out k f (list c) n (rw (counts c) at (ltb-false n (countOf k (layoutOf b c)) q)))
+
+-- texture n: where it stands, by the layout that the code has, and that it is what the calls answer with
+pub record TextureFound (n : ℕ) (b : List ℕ) (l : Layout) : Type 1 where
+  pub texture : Tex.Texture
+  pub within : l .header .«texture_off» + listLength kinds.Texture (l .textures) ≤ length b
+  pub below : n < l .textures
+  pub at : TextureAt (l .header) (listAt kinds.Texture (l .header .«texture_off») (l .textures) b) n b texture
+  pub entry : {B : Type 0} (f : Tex.Texture → B) → result (f texture) ≡ textureEntry f n (run readTex b)
+
+pub texture-found : (n : ℕ) (b : List ℕ) {l : Layout} → result l ≡ layoutWith kinds.Texture n b (run readTex b) → TextureFound n b l
+unfolding textureEntry
+texture-found n b e =
+    let o = found kinds.Texture n b (run readTex b) e in
+    let listed = textures-listed (headerOf (take 60 b)) b (finished b (o .is) .textures) in
+    let none : Tex.Texture = record { name = []; word = 0; parts = record { data1 = []; data2 = [] } } in
+    subst (TextureFound n b) (sym (o .laid))
+    (record {
+      texture = getD (o .contents .textures) n none;
+      within = listed .within;
+      below = o .below;
+      at = listed .at n none (o .below);
+      entry = λ f. sym (entry-in kinds.Texture f (o .contents .textures) n none (o .below)) ∙ whole-outcome _ (o .is);
+    })
+
+pub no-texture : {B : Type 0} (n : ℕ) (b : List ℕ) (f : Tex.Texture → B) (r : Refusal)
+    → refusalOutcome r ≡ layoutWith kinds.Texture n b (run readTex b) → refusalOutcome r ≡ textureEntry f n (run readTex b)
+unfolding textureEntry
+no-texture n b f r e = no-entry kinds.Texture n b (λ c. c .textures) f (λ c. refl) r (run readTex b) e
+
+-- palette n, likewise
+pub record PaletteFound (n : ℕ) (b : List ℕ) (l : Layout) : Type 1 where
+  pub palette : Tex.Palette
+  pub within : l .header .«palette_off» + listLength kinds.Palette (l .palettes) ≤ length b
+  pub below : n < l .palettes
+  pub at : palette ≡ Tex.paletteEntry (listAt kinds.Palette (l .header .«palette_off») (l .palettes) b) n
+  pub entry : {B : Type 0} (f : Tex.Palette → B) → result (f palette) ≡ paletteEntry f n (run readTex b)
+
+pub palette-found : (n : ℕ) (b : List ℕ) {l : Layout} → result l ≡ layoutWith kinds.Palette n b (run readTex b) → PaletteFound n b l
+unfolding paletteEntry
+palette-found n b e =
+    let o = found kinds.Palette n b (run readTex b) e in
+    let listed = palettes-listed (headerOf (take 60 b)) b (finished b (o .is) .palettes) in
+    let none : Tex.Palette = record { name = []; off = 0 } in
+    subst (PaletteFound n b) (sym (o .laid))
+    (record {
+      palette = getD (o .contents .palettes) n none;
+      within = listed .within;
+      below = o .below;
+      at = listed .at n none (o .below);
+      entry = λ f. sym (entry-in kinds.Palette f (o .contents .palettes) n none (o .below)) ∙ whole-outcome _ (o .is);
+    })
+
+pub no-palette : {B : Type 0} (n : ℕ) (b : List ℕ) (f : Tex.Palette → B) (r : Refusal)
+    → refusalOutcome r ≡ layoutWith kinds.Palette n b (run readTex b) → refusalOutcome r ≡ paletteEntry f n (run readTex b)
+unfolding paletteEntry
+no-palette n b f r e = no-entry kinds.Palette n b (λ c. c .palettes) f (λ c. refl) r (run readTex b) e

@@ -1,0 +1,7 @@
+pub mod Calls
+pub mod InfoBlock
+pub mod Name
+pub mod Output
+pub mod Refusal
+pub mod Script
+pub mod Tex

@@ -1,0 +1,32 @@
+// Why a call is declined: rows of document 01's table.
+
+// Which of a block's two name lists.
+pub enum Kind {
+    Texture,
+    Palette,
+}
+
+pub enum Refusal {
+    // The block is too short. At this length the take that failed passes: what document 01 calls the want.
+    Short(usize),
+    // The block does not begin with TEX0.
+    Stamp,
+    // A list's dummy is not 0.
+    Dummy(Kind),
+    // A list's datum size is not its kind's.
+    DatumSize(Kind),
+    // A texture's or palette's number is not below the count.
+    Number(Kind),
+    // The output is shorter than what is to be written.
+    Output,
+}
+
+pub enum Status {
+    Done,
+    Refused(Refusal),
+}
+
+pub enum Counted {
+    Count(usize),
+    Refused(Refusal),
+}

@@ -1,0 +1,82 @@
+// Name lists: c entries, each a datum and a name of 16 bytes.
+use crate::errors::Counted;
+use crate::errors::Kind;
+use crate::errors::Refusal;
+use crate::errors::Status;
+use crate::name::Name;
+use crate::name::name_at;
+use util::cur::Taken;
+use util::cur::take_at;
+use util::view::view_u8;
+use util::view::view_u16;
+ghost use mathlib.Core.Path.{_≡_};
+ghost use Prim.Native.Nat.{_+_, _<_, _≤_, _^_};
+ghost use lib.ListN.{length};
+ghost use Rattle.util.specs.Outcome.{result};
+ghost use Rattle.nitro.specs.Refusal.{statusOutcome, countedOutcome};
+ghost use Rattle.nitro.specs.Script.{run, outcomeOf, bytesAt};
+ghost use Rattle.nitro.specs.InfoBlock as InfoBlock;
+
+// Whether block holds n bytes at pos.
+pub fn take(block: &[u8], pos: usize, n: usize) -> Status
+    requires { ⌜ pos + n < 2 ^ 64 ⌝ }
+    ensures { λ r. ⌜ statusOutcome r ≡ outcomeOf (run (bytesAt pos n) (now (block .entry))) (λ _. result tt) ⌝ }
+{
+    match take_at(block, pos, n) {
+        Taken::Whole(_) => Status::Done,
+        Taken::Short(needed) => Status::Refused(Refusal::Short(needed.low)),
+    }
+}
+
+// The size of an entry's datum.
+pub fn datum_size(kind: Kind) -> usize
+    ensures { λ r. ⌜ r ≡ InfoBlock.datumBytes kind ⌝ }
+{
+    match kind {
+        Kind::Texture => 8,
+        Kind::Palette => 4,
+    }
+}
+
+// Reads the list of c entries at pos whole, and checks it.
+fn read_whole(block: &[u8], kind: Kind, pos: usize, c: usize) -> Counted
+    requires { ⌜ (pos < 2 ^ 32) × (c < 2 ^ 8) ⌝ }
+    ensures { λ r. ⌜ countedOutcome r ≡ outcomeOf (run (InfoBlock.wholeList kind pos c) (now (block .entry))) (λ list. result (list .count)) ⌝ }
+{
+    let size = datum_size(kind);
+    match take(block, pos, 16 + 4 * c + size * c + 16 * c) {
+        Status::Refused(refusal) => Counted::Refused(refusal),
+        Status::Done => {
+            if view_u8(block, pos) != 0 {
+                return Counted::Refused(Refusal::Dummy(kind));
+            }
+            if view_u16(block, pos + (12 + 4 * c)) as usize != size {
+                return Counted::Refused(Refusal::DatumSize(kind));
+            }
+            Counted::Count(c)
+        }
+    }
+}
+
+// Reads the list at pos: its count, then the whole list, then its dummy and its datum size. Answers with the count.
+pub fn read(block: &[u8], kind: Kind, pos: u32) -> Counted
+    ensures { λ r. ⌜ countedOutcome r ≡ outcomeOf (run (InfoBlock.nameList kind pos) (now (block .entry))) (λ list. result (list .count)) ⌝ }
+{
+    let pos = pos as usize;
+    match take(block, pos, 2) {
+        Status::Refused(refusal) => Counted::Refused(refusal),
+        Status::Done => {
+            let c = view_u8(block, pos + 1) as usize;
+            read_whole(block, kind, pos, c)
+        }
+    }
+}
+
+// The name of entry n of the list of c entries at pos.
+pub fn entry_name(block: &[u8], kind: Kind, pos: usize, c: usize, n: usize) -> Name
+    requires { ⌜ (pos + InfoBlock.listLength kind c ≤ length (now block)) × (n < c) ⌝ }
+    ensures { λ r. ⌜ r .0 ≡ InfoBlock.entryName kind (InfoBlock.listAt kind pos c (now (block .entry))) n ⌝ }
+{
+    let size = datum_size(kind);
+    name_at(block, pos + (16 + 4 * c + size * c + 16 * n))
+}

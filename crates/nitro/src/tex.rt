@@ -1,0 +1,391 @@
+// TEX0 blocks: the reading, and what it found, as records and as parts of the block.
+//
+// A reading keeps nothing but positions and counts. Each call reads the block, and then picks what it was asked for.
+use crate::errors::Counted;
+use crate::errors::Kind;
+use crate::errors::Refusal;
+use crate::errors::Status;
+use crate::info_block;
+use crate::info_block::entry_name;
+use crate::info_block::take;
+use crate::name::Name;
+use nds::texture_formats::Alpha;
+use nds::texture_params::TextureParams;
+use nds::wrap::Wrap;
+use util::cur::part_at;
+use util::view::view_u16;
+use util::view::view_u32;
+ghost use mathlib.Core.Path.{_≡_};
+ghost use Prim.Native.Nat.{_+_, _*_, _<_, _≤_, _^_};
+ghost use lib.ListN.{length, take as firstBytes};
+ghost use Rattle.util.specs.Outcome.{result};
+ghost use Rattle.nitro.specs.Refusal.{statusOutcome, countedOutcome};
+ghost use Rattle.nitro.specs.Script.{run, outcomeOf, each};
+ghost use Rattle.nitro.specs.InfoBlock.{listAt, listLength, entryName, entryNumber};
+ghost use Rattle.nitro.specs.Tex as Tex;
+ghost use Rattle.nitro.specs.Calls as Calls;
+ghost use Rattle.nitro.specs.declared.errors.Kind.the-variants as kinds;
+
+pub struct Header {
+    pub texture_off: u16,
+    pub tex_block_off: u32,
+    pub compressed1_block_off: u32,
+    pub compressed2_block_off: u32,
+    // The palette block's length in units of 8 bytes.
+    pub pal_block_len_shr_3: u16,
+    pub palette_off: u32,
+    pub pal_block_off: u32,
+}
+
+// Where a block's lists and data are, and how long the lists are.
+pub struct Layout {
+    pub header: Header,
+    pub textures: usize,
+    pub palettes: usize,
+}
+
+pub enum Headed {
+    Found(Header),
+    Refused(Refusal),
+}
+
+pub enum Laid {
+    Found(Layout),
+    Refused(Refusal),
+}
+
+pub enum Reading {
+    // How many textures and palettes the block has.
+    Counts(usize, usize),
+    Refused(Refusal),
+}
+
+pub struct TextureRecord {
+    pub name: Name,
+    pub params: TextureParams,
+    pub wrap_s: Wrap,
+    pub wrap_t: Wrap,
+    pub alpha: Alpha,
+}
+
+pub struct PaletteRecord {
+    pub name: Name,
+    // In bytes, from the palette block's start.
+    pub off: u32,
+}
+
+// Where the status is a refusal, the record beside it has a name of zeros and the word 0.
+pub struct TextureAnswer {
+    pub status: Status,
+    pub texture: TextureRecord,
+}
+
+// Where the status is a refusal, the record beside it has a name of zeros and the offset 0.
+pub struct PaletteAnswer {
+    pub status: Status,
+    pub palette: PaletteRecord,
+}
+
+fn has_stamp(block: &[u8]) -> bool
+    requires { ⌜ 60 ≤ length (now block) ⌝ }
+    ensures { λ r. ⌜ r ≡ Tex.hasStamp (firstBytes 60 (now (block .entry))) ⌝ }
+{
+    if block[0] != b'T' {
+        return false;
+    }
+    if block[1] != b'E' {
+        return false;
+    }
+    if block[2] != b'X' {
+        return false;
+    }
+    block[3] == b'0'
+}
+
+fn header_of(block: &[u8]) -> Header
+    requires { ⌜ 60 ≤ length (now block) ⌝ }
+    ensures { λ r. ⌜ r ≡ Tex.headerOf (firstBytes 60 (now (block .entry))) ⌝ }
+{
+    Header {
+        texture_off: view_u16(block, 14),
+        tex_block_off: view_u32(block, 20),
+        compressed1_block_off: view_u32(block, 36),
+        compressed2_block_off: view_u32(block, 40),
+        pal_block_len_shr_3: view_u16(block, 48),
+        palette_off: view_u32(block, 52),
+        pal_block_off: view_u32(block, 56),
+    }
+}
+
+// Reads the header, and then checks its stamp.
+fn read_header(block: &[u8]) -> Headed
+    ensures { λ r. ⌜ Calls.headedOutcome r ≡ outcomeOf (run Tex.readHeader (now (block .entry))) result ⌝ }
+{
+    match take(block, 0, 60) {
+        Status::Refused(refusal) => Headed::Refused(refusal),
+        Status::Done => {
+            if has_stamp(block) {
+                Headed::Found(header_of(block))
+            } else {
+                Headed::Refused(Refusal::Stamp)
+            }
+        }
+    }
+}
+
+// Where a texture's data, or a block-compressed texture's first data, begins.
+fn data1_pos(header: Header, params: TextureParams) -> usize
+    ensures { λ r. ⌜ (r ≡ Tex.dataAt header (params .0)) × (r < 2 ^ 33) ⌝ }
+{
+    let format = params.format();
+    let offset = params.offset() as usize;
+    if format.0 == 5 {
+        header.compressed1_block_off as usize + offset
+    } else {
+        header.tex_block_off as usize + offset
+    }
+}
+
+// Where a block-compressed texture's second data begins.
+fn data2_pos(header: Header, params: TextureParams) -> usize
+    ensures { λ r. ⌜ (r ≡ Tex.secondAt header (params .0)) × (r < 2 ^ 33) ⌝ }
+{
+    let offset = params.offset() as usize;
+    header.compressed2_block_off as usize + offset / 2
+}
+
+// Whether the second data is there, for a texture that has any.
+fn take_data2(block: &[u8], header: Header, params: TextureParams) -> Status
+    ensures { λ r. ⌜ statusOutcome r ≡ outcomeOf (run (Tex.readSecond header (params .0)) (now (block .entry))) (λ _. result tt) ⌝ }
+{
+    let format = params.format();
+    if format.0 == 5 {
+        take(block, data2_pos(header, params), params.byte_len2())
+    } else {
+        Status::Done
+    }
+}
+
+// Whether a texture's data are there, the first and then the second. A texture of format 0 has 0 bytes, and a position all the same.
+fn take_data(block: &[u8], header: Header, params: TextureParams) -> Status
+    ensures { λ r. ⌜ statusOutcome r ≡ outcomeOf (run (Tex.readData header (params .0)) (now (block .entry))) (λ _. result tt) ⌝ }
+{
+    match take(block, data1_pos(header, params), params.byte_len()) {
+        Status::Refused(refusal) => Status::Refused(refusal),
+        Status::Done => take_data2(block, header, params),
+    }
+}
+
+// The word of texture n.
+fn params_at(block: &[u8], pos: usize, count: usize, n: usize) -> TextureParams
+    requires { ⌜ (pos + listLength kinds.Texture count ≤ length (now block)) × (n < count) ⌝ }
+    ensures { λ r. ⌜ r .0 ≡ entryNumber kinds.Texture 4 (listAt kinds.Texture pos count (now (block .entry))) n ⌝ }
+{
+    TextureParams(view_u32(block, pos + (16 + 4 * count + 8 * n)))
+}
+
+// The offset of palette n, in bytes.
+fn off_at(block: &[u8], pos: usize, count: usize, n: usize) -> u32
+    requires { ⌜ (pos + listLength kinds.Palette count ≤ length (now block)) × (n < count) ⌝ }
+    ensures { λ r. ⌜ r ≡ 8 * entryNumber kinds.Palette 2 (listAt kinds.Palette pos count (now (block .entry))) n ⌝ }
+{
+    8 * (view_u16(block, pos + (16 + 4 * count + 4 * n)) as u32)
+}
+
+// Whether the data of all textures are there, in list order.
+fn take_all_data(block: &[u8], header: Header, count: usize) -> Counted
+    requires { ⌜ header .«texture_off» + listLength kinds.Texture count ≤ length (now block) ⌝ }
+    ensures { λ r. ⌜ countedOutcome r ≡ outcomeOf (run (each count (Tex.readTexture header (listAt kinds.Texture (header .«texture_off») count (now (block .entry))))) (now (block .entry))) (λ _. result count) ⌝ }
+{
+    let pos = header.texture_off as usize;
+    let mut i = 0;
+    while i < count {
+        let params = params_at(block, pos, count, i);
+        if let Status::Refused(refusal) = take_data(block, header, params) {
+            return Counted::Refused(refusal);
+        }
+        i += 1;
+    }
+    Counted::Count(count)
+}
+
+// Reads the texture list, and then each texture's data.
+fn read_textures(block: &[u8], header: Header) -> Counted
+    ensures { λ r. ⌜ countedOutcome r ≡ outcomeOf (run (Tex.readTextures header) (now (block .entry))) (λ textures. result (length textures)) ⌝ }
+{
+    match info_block::read(block, Kind::Texture, header.texture_off as u32) {
+        Counted::Refused(refusal) => Counted::Refused(refusal),
+        Counted::Count(count) => take_all_data(block, header, count),
+    }
+}
+
+// Reads the palette list.
+fn read_palettes(block: &[u8], header: Header) -> Counted
+    ensures { λ r. ⌜ countedOutcome r ≡ outcomeOf (run (Tex.readPalettes header) (now (block .entry))) (λ palettes. result (length palettes)) ⌝ }
+{
+    info_block::read(block, Kind::Palette, header.palette_off)
+}
+
+// Reads the block: header, palette block, textures, palettes.
+fn lay_out(block: &[u8]) -> Laid
+    ensures { λ r. ⌜ Calls.laidOutcome r ≡ Calls.layoutAnswer (now (block .entry)) (run Tex.readTex (now (block .entry))) ⌝ }
+{
+    let header = match read_header(block) {
+        Headed::Found(header) => header,
+        Headed::Refused(refusal) => return Laid::Refused(refusal),
+    };
+    let pal_block_len = 8 * (header.pal_block_len_shr_3 as usize);
+    if let Status::Refused(refusal) = take(block, header.pal_block_off as usize, pal_block_len) {
+        return Laid::Refused(refusal);
+    }
+    let textures = match read_textures(block, header) {
+        Counted::Count(textures) => textures,
+        Counted::Refused(refusal) => return Laid::Refused(refusal),
+    };
+    match read_palettes(block, header) {
+        Counted::Count(palettes) => Laid::Found(Layout {
+            header,
+            textures,
+            palettes,
+        }),
+        Counted::Refused(refusal) => Laid::Refused(refusal),
+    }
+}
+
+fn count_of(kind: Kind, layout: Layout) -> usize
+    ensures { λ r. ⌜ r ≡ Calls.countOf kind layout ⌝ }
+{
+    match kind {
+        Kind::Texture => layout.textures,
+        Kind::Palette => layout.palettes,
+    }
+}
+
+// The layout of a block whose list of the kind has an entry n.
+fn find(block: &[u8], kind: Kind, n: usize) -> Laid
+    ensures { λ r. ⌜ Calls.laidOutcome r ≡ Calls.layoutWith kind n (now (block .entry)) (run Tex.readTex (now (block .entry))) ⌝ }
+{
+    match lay_out(block) {
+        Laid::Refused(refusal) => Laid::Refused(refusal),
+        Laid::Found(layout) => {
+            if n < count_of(kind, layout) {
+                Laid::Found(layout)
+            } else {
+                Laid::Refused(Refusal::Number(kind))
+            }
+        }
+    }
+}
+
+fn texture_record(name: Name, params: TextureParams) -> TextureRecord
+    ensures { λ r. ⌜ r ≡ Calls.textureRecord (name .0) (params .0) ⌝ }
+{
+    TextureRecord {
+        name,
+        params,
+        wrap_s: params.wrap_s(),
+        wrap_t: params.wrap_t(),
+        alpha: params.alpha_type(),
+    }
+}
+
+// Reads the block: how many textures and palettes it has.
+pub fn read_tex(block: &[u8]) -> Reading
+    ensures { λ r. ⌜ Calls.readingOutcome r ≡ Calls.readingOf (run Tex.readTex (now (block .entry))) ⌝ }
+{
+    match lay_out(block) {
+        Laid::Found(layout) => Reading::Counts(layout.textures, layout.palettes),
+        Laid::Refused(refusal) => Reading::Refused(refusal),
+    }
+}
+
+// The record of texture n.
+pub fn texture(block: &[u8], n: usize) -> TextureAnswer
+    ensures { λ r. ⌜ Calls.Answers Calls.noTexture (Calls.textureOf n (run Tex.readTex (now (block .entry)))) (r .status) (r .texture) ⌝ }
+{
+    match find(block, Kind::Texture, n) {
+        Laid::Found(layout) => {
+            let header = layout.header;
+            let pos = header.texture_off as usize;
+            let count = layout.textures;
+            let name = entry_name(block, Kind::Texture, pos, count, n);
+            let params = params_at(block, pos, count, n);
+            TextureAnswer {
+                status: Status::Done,
+                texture: texture_record(name, params),
+            }
+        }
+        Laid::Refused(refusal) => TextureAnswer {
+            status: Status::Refused(refusal),
+            texture: texture_record(Name([0; 16]), TextureParams(0)),
+        },
+    }
+}
+
+// The record of palette n.
+pub fn palette(block: &[u8], n: usize) -> PaletteAnswer
+    ensures { λ r. ⌜ Calls.Answers Calls.noPalette (Calls.paletteOf n (run Tex.readTex (now (block .entry)))) (r .status) (r .palette) ⌝ }
+{
+    match find(block, Kind::Palette, n) {
+        Laid::Found(layout) => {
+            let header = layout.header;
+            let pos = header.palette_off as usize;
+            let count = layout.palettes;
+            let name = entry_name(block, Kind::Palette, pos, count, n);
+            let off = off_at(block, pos, count, n);
+            PaletteAnswer {
+                status: Status::Done,
+                palette: PaletteRecord { name, off },
+            }
+        }
+        Laid::Refused(refusal) => PaletteAnswer {
+            status: Status::Refused(refusal),
+            palette: PaletteRecord {
+                name: Name([0; 16]),
+                off: 0,
+            },
+        },
+    }
+}
+
+// The data of texture n, or the first data of a block-compressed texture.
+pub fn texture_data1(block: &[u8], n: usize) -> &[u8]
+    ensures { λ r. ⌜ now r ≡ Calls.data1Of n (run Tex.readTex (now (block .entry))) ⌝ }
+{
+    match find(block, Kind::Texture, n) {
+        Laid::Found(layout) => {
+            let header = layout.header;
+            let params = params_at(block, header.texture_off as usize, layout.textures, n);
+            part_at(block, data1_pos(header, params), params.byte_len())
+        }
+        Laid::Refused(_) => &block[..0],
+    }
+}
+
+// The second data of texture n. Only a block-compressed texture has any.
+pub fn texture_data2(block: &[u8], n: usize) -> &[u8]
+    ensures { λ r. ⌜ now r ≡ Calls.data2Of n (run Tex.readTex (now (block .entry))) ⌝ }
+{
+    match find(block, Kind::Texture, n) {
+        Laid::Found(layout) => {
+            let header = layout.header;
+            let params = params_at(block, header.texture_off as usize, layout.textures, n);
+            part_at(block, data2_pos(header, params), params.byte_len2())
+        }
+        Laid::Refused(_) => &block[..0],
+    }
+}
+
+// The palette block, which all palettes share.
+pub fn pal_block(block: &[u8]) -> &[u8]
+    ensures { λ r. ⌜ now r ≡ Calls.palBlockOf (run Tex.readTex (now (block .entry))) ⌝ }
+{
+    match lay_out(block) {
+        Laid::Found(layout) => {
+            let header = layout.header;
+            let pal_block_len = 8 * (header.pal_block_len_shr_3 as usize);
+            part_at(block, header.pal_block_off as usize, pal_block_len)
+        }
+        Laid::Refused(_) => &block[..0],
+    }
+}
