@@ -11,6 +11,7 @@ use nitro::errors::Status;
 use nitro::name::Name;
 use nitro::tex;
 use nitro::tex::Reading;
+use nitro::tex::TextureRecord;
 use util::cur::Peeked;
 use util::cur::Taken;
 use util::cur::part_at;
@@ -72,13 +73,17 @@ fn alpha(a: Alpha) {
     }
 }
 
+fn hex(b: u8) {
+    io::print_hex(STDOUT_FILENO, b as u64, 2);
+}
+
 // A part's length, and its bytes in hex.
 fn part(bytes: &[u8]) {
     number(bytes.len() as u64);
     text(b" ");
     let mut i = 0;
     while i < bytes.len() {
-        io::print_hex(STDOUT_FILENO, bytes[i] as u64, 2);
+        hex(bytes[i]);
         i += 1;
     }
 }
@@ -116,18 +121,27 @@ fn raw(name: Name) {
     part(&bytes);
 }
 
+fn texture(record: TextureRecord) {
+    let name = record.name;
+    let params = record.params;
+    let wrap_s = record.wrap_s;
+    let wrap_t = record.wrap_t;
+    let kind = record.alpha;
+    number(params.0 as u64);
+    wrap(wrap_s);
+    wrap(wrap_t);
+    alpha(kind);
+    raw(name);
+}
+
 fn textures(block: &[u8], n: usize) {
     text(b"texture");
     number(n as u64);
     let answer = tex::texture(block, n);
-    status(answer.status);
+    let outcome = answer.status;
     let record = answer.texture;
-    let params = record.params;
-    number(params.0 as u64);
-    wrap(record.wrap_s);
-    wrap(record.wrap_t);
-    alpha(record.alpha);
-    raw(record.name);
+    status(outcome);
+    texture(record);
     text(b"\ndata1");
     part(tex::texture_data1(block, n));
     text(b"\ndata2");
@@ -139,10 +153,12 @@ fn palettes(block: &[u8], n: usize) {
     text(b"palette");
     number(n as u64);
     let answer = tex::palette(block, n);
-    status(answer.status);
+    let outcome = answer.status;
     let record = answer.palette;
+    let name = record.name;
+    status(outcome);
     number(record.off as u64);
-    raw(record.name);
+    raw(name);
     text(b"\n");
 }
 
@@ -169,7 +185,8 @@ fn show(block: &[u8]) {
     palettes(block, 18446744073709551615);
     let first = tex::texture(block, 0);
     let record = first.texture;
-    texts(record.name);
+    let name = record.name;
+    texts(name);
 }
 
 // Shows the block whose length stands at pos, and answers where the next one begins, or the input's length where there is none.
@@ -187,16 +204,21 @@ fn show_at(input: &[u8], pos: usize) -> usize {
     }
 }
 
+// Shows each block of the input. There are fewer than 1,000.
+fn show_all(input: &[u8]) {
+    let mut pos = 0;
+    let mut turns: usize = 1000;
+    while 0 < turns {
+        if pos == input.len() {
+            return;
+        }
+        pos = show_at(input, pos);
+        turns -= 1;
+    }
+}
+
 fn main() {
     let mut buffer = io::large_buffer();
     let n = io::read_full(STDIN_FILENO, &mut buffer);
-    let mut pos = 0;
-    let mut turns = 1000;
-    while 0 < turns {
-        if pos == n {
-            return;
-        }
-        pos = show_at(&buffer[..n], pos);
-        turns -= 1;
-    }
+    show_all(&buffer[..n]);
 }
