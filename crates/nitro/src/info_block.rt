@@ -47,10 +47,12 @@ fn read_whole(block: &[u8], kind: Kind, pos: usize, c: usize) -> Counted
     match take(block, pos, 16 + 4 * c + size * c + 16 * c) {
         Status::Refused(refusal) => Counted::Refused(refusal),
         Status::Done => {
-            if view_u8(block, pos) != 0 {
+            let dummy = view_u8(block, pos);
+            let size_of_datum = view_u16(block, pos + (12 + 4 * c)) as usize;
+            if dummy != 0 {
                 return Counted::Refused(Refusal::Dummy(kind));
             }
-            if view_u16(block, pos + (12 + 4 * c)) as usize != size {
+            if size_of_datum != size {
                 return Counted::Refused(Refusal::DatumSize(kind));
             }
             Counted::Count(c)

@@ -133,6 +133,21 @@ fn read_header(block: &[u8]) -> Headed
     }
 }
 
+// In bytes.
+fn pal_block_len(header: Header) -> usize
+    ensures { λ r. ⌜ r ≡ 8 * header .«pal_block_len_shr_3» ⌝ }
+    ensures { λ r. ⌜ r < 2 ^ 19 ⌝ }
+{
+    8 * (header.pal_block_len_shr_3 as usize)
+}
+
+// Whether the palette block is there.
+fn take_pal_block(block: &[u8], header: Header) -> Status
+    ensures { λ r. ⌜ statusOutcome r ≡ outcomeOf (run (Tex.readPalBlock header) (now (block .entry))) (λ _. result tt) ⌝ }
+{
+    take(block, header.pal_block_off as usize, pal_block_len(header))
+}
+
 // Where a texture's data, or a block-compressed texture's first data, begins.
 fn data1_pos(header: Header, params: TextureParams) -> usize
     ensures { λ r. ⌜ (r ≡ Tex.dataAt header (params .0)) × (r < 2 ^ 33) ⌝ }
@@ -234,8 +249,7 @@ fn lay_out(block: &[u8]) -> Laid
         Headed::Found(header) => header,
         Headed::Refused(refusal) => return Laid::Refused(refusal),
     };
-    let pal_block_len = 8 * (header.pal_block_len_shr_3 as usize);
-    if let Status::Refused(refusal) = take(block, header.pal_block_off as usize, pal_block_len) {
+    if let Status::Refused(refusal) = take_pal_block(block, header) {
         return Laid::Refused(refusal);
     }
     let textures = match read_textures(block, header) {
@@ -383,8 +397,7 @@ pub fn pal_block(block: &[u8]) -> &[u8]
     match lay_out(block) {
         Laid::Found(layout) => {
             let header = layout.header;
-            let pal_block_len = 8 * (header.pal_block_len_shr_3 as usize);
-            part_at(block, header.pal_block_off as usize, pal_block_len)
+            part_at(block, header.pal_block_off as usize, pal_block_len(header))
         }
         Laid::Refused(_) => &block[..0],
     }

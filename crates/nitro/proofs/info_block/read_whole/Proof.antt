@@ -46,14 +46,14 @@ enum-told c = search needs
 there : (c : tie.After-enum-told)
     → let a = c .before .before .before .before .before .args in a .pos + listLength (a .kind) (a .c) ≤ length (now (a .block))
 there c =
-    rw (c .before .before .before .datum-size .ensures)
-    at (take-within _ _ _ (rw (c .enum-told .given .1) at (c .before .before .take .ensures)))
+    omega (
+      arith,
+      rw (c .before .before .before .datum-size .ensures)
+          at (take-within _ _ _ (rw (c .enum-told .given .1) at (c .before .before .take .ensures))),
+    )
 
 view-u8-requires : tie.Need-view-u8-requires
 view-u8-requires c κs = omega (arith, there c)
-
-returns : tie.Need-returns
-returns c = fault-outcome _ (dummy-bad _ _ _ _ (there (c .before .before)) (λ e. c .if1 .taken (c .before .view-u8 .ensures ∙ e)))
 
 mul-view-u16 : tie.Need-mul-view-u16
 mul-view-u16 c = search needs
@@ -65,18 +65,23 @@ add-view-u16-2 : tie.Need-add-view-u16-2
 add-view-u16-2 c = search needs
 
 view-u16-requires : tie.Need-view-u16-requires
-view-u16-requires c κs = omega (arith, there (c .before .before))
+view-u16-requires c κs = omega (arith, there (c .before))
 
-cast-if2 : tie.Need-cast-if2
-cast-if2 c = search needs
+cast-size-of-datum : tie.Need-cast-size-of-datum
+cast-size-of-datum c = search needs
+
+returns : tie.Need-returns
+returns c =
+    let b = c .before .before in
+    fault-outcome _ (dummy-bad _ _ _ _ (there (b .before)) (λ e. c .if1 .taken (b .view-u8 .ensures ∙ e)))
 
 returns-2 : tie.Need-returns-2
 returns-2 c =
-    let b = c .before .before .before in
-    let size = b .before .before .before .before .datum-size .ensures in
+    let v = c .before .before in
+    let b = v .before in
     fault-outcome _
-    (size-bad _ _ _ _ (there (b .before)) (sym (b .view-u8 .ensures) ∙ c .before .before .if1 .left)
-    (λ e. c .if2 .taken (c .before .view-u16 .ensures ∙ (e ∙ sym size))))
+    (size-bad _ _ _ _ (there (b .before)) (sym (b .view-u8 .ensures) ∙ c .before .if1 .left)
+    (λ e. c .if2 .taken (v .view-u16 .ensures ∙ (e ∙ sym (b .before .before .before .before .datum-size .ensures)))))
 
 returns-3 : tie.Need-returns-3
 returns-3 c =
@@ -86,11 +91,11 @@ returns-3 c =
 
 returns-4 : tie.Need-returns-4
 returns-4 c =
-    let b = c .before .before .before in
-    let size = b .before .before .before .before .datum-size .ensures in
+    let v = c .before .before in
+    let b = v .before in
     whole-outcome _
-    (list-passes _ _ _ _ (there (b .before)) (sym (b .view-u8 .ensures) ∙ c .before .before .if1 .left)
-    (sym (c .before .view-u16 .ensures) ∙ (c .if2 .left ∙ size)))
+    (list-passes _ _ _ _ (there (b .before)) (sym (b .view-u8 .ensures) ∙ c .before .if1 .left)
+    (sym (v .view-u16 .ensures) ∙ (c .if2 .left ∙ b .before .before .before .before .datum-size .ensures)))
 
 pub read-whole-spec : {M : Type 1} → statement M
 read-whole-spec =
@@ -107,12 +112,12 @@ read-whole-spec =
     enum-known-refusal
     enum-told
     view-u8-requires
-    returns
     mul-view-u16
     add-view-u16
     add-view-u16-2
     view-u16-requires
-    cast-if2
+    cast-size-of-datum
+    returns
     returns-2
     returns-3
     returns-4)

@@ -3,9 +3,8 @@ use mathlib.Core.Path.{_≡_, ap, sym, _∙_}
 use lib.ListN.{length}
 use denote.Ref.{now}
 use borrow.Author.Needs.{needs}
-use Rattle.util.specs.Outcome.{result}
-use Rattle.nitro.specs.Script.{Answer, run, whole}
-use Rattle.nitro.specs.Tex.{Texture, readHeader, readPalBlock, readTextures, readPalettes}
+use Rattle.nitro.specs.Script.{run, whole}
+use Rattle.nitro.specs.Tex.{readHeader, readPalBlock, readTextures}
 use Rattle.nitro.specs.Calls.{layoutAnswer}
 use Rattle.nitro.proofs.Runs.{Ended, ended, whole-outcome, refused}
 use Rattle.nitro.proofs.Readings.{header-whole, read-header-follows, read-pal-block-follows, read-textures-follows, read-palettes-follows, read-whole}
@@ -20,13 +19,12 @@ header c =
     e .is ∙ ap whole (sym (e .gives))
 
 pal-block : (c : tie.After-enum-told)
-    → let h = c .before .before .before .before .before in
+    → let h = c .before .before .before in
     Ended (run (readPalBlock (h .before .header .given .0 .0)) (now (h .before .before .before .before .before .args .block))) (λ _. tt {0}) (tt {0})
-unfolding readPalBlock
-pal-block c = ended _ _ (rw (c .enum-told .given .1) at (c .before .before .take .ensures))
+pal-block c = ended _ _ (rw (c .enum-told .given .1) at (c .before .before .take-pal-block .ensures))
 
 textures : (c : tie.After-known-told4)
-    → let h = c .before .before .before .before .before .before .before .before .before in
+    → let h = c .before .before .before .before .before .before .before in
     Ended (run (readTextures (h .before .header .given .0 .0)) (now (h .before .before .before .before .before .args .block))) length
     (c .before .textures .given .0 .0)
 textures c = ended _ _ (rw (c .before .textures .given .1) at (c .before .before .before .read-textures .ensures))
@@ -46,27 +44,18 @@ returns c =
     refused _ _ (read-header-follows _) (λ h. h) _ (c .before .refusal .given .0 .0)
     (rw (c .before .refusal .given .1) at (c .before .before .before .read-header .ensures))
 
-cast-pal-block-len : tie.Need-cast-pal-block-len
-cast-pal-block-len c = search needs
-
-mul-pal-block-len : tie.Need-mul-pal-block-len
-mul-pal-block-len c = search needs
-
-cast-take : tie.Need-cast-take
-cast-take c = search needs
-
-take-requires : tie.Need-take-requires
-take-requires c κs = search needs
+take-pal-block-requires : tie.Need-take-pal-block-requires
+take-pal-block-requires c κs = search needs
 
 enum-known-refusal-2 : tie.Need-enum-known-refusal-2
 enum-known-refusal-2 c = search needs
 
 returns-2 : tie.Need-returns-2
-unfolding layoutAnswer readPalBlock
+unfolding layoutAnswer
 returns-2 c =
     let t = c .before .before .before in
-    refused _ _ (read-pal-block-follows _ (header (t .before .before .before))) _ _ (c .before .refusal2 .given .0 .0)
-    (rw (c .before .refusal2 .given .1) at (t .take .ensures))
+    refused _ _ (read-pal-block-follows _ (header (t .before))) _ _ (c .before .refusal2 .given .0 .0)
+    (rw (c .before .refusal2 .given .1) at (t .take-pal-block .ensures))
 
 enum-told : tie.Need-enum-told
 enum-told c = search needs
@@ -84,8 +73,8 @@ returns-3 : tie.Need-returns-3
 unfolding layoutAnswer
 returns-3 c =
     let t = c .before .before .before in
-    let p = t .before in
-    refused _ _ (read-textures-follows _ (header (p .before .before .before .before .before)) (pal-block p .is)) _ _ (c .before .refusal3 .given .0 .0)
+    let b = t .before in
+    refused _ _ (read-textures-follows _ (header (b .before .before .before)) (pal-block b .is)) _ _ (c .before .refusal3 .given .0 .0)
     (rw (c .before .refusal3 .given .1) at (t .read-textures .ensures))
 
 read-palettes-requires : tie.Need-read-palettes-requires
@@ -103,7 +92,7 @@ returns-4 c =
     let p = c .before .before .before in
     let t = p .before in
     let b = t .before .before .before .before in
-    let h = b .before .before .before .before .before in
+    let h = b .before .before .before in
     let palettes = ended _ _ (rw (c .before .palettes .given .1) at (p .read-palettes .ensures)) in
     rw (header-whole _ (header h), textures t .gives, palettes .gives)
     (whole-outcome _ (read-whole _ (header h) (pal-block b .is) (textures t .is) (palettes .is)))
@@ -114,8 +103,7 @@ returns-5 c =
     let p = c .before .before .before in
     let t = p .before in
     let b = t .before .before .before .before in
-    let h = b .before .before .before .before .before in
-    refused _ _ (read-palettes-follows _ (header h) (pal-block b .is) (textures t .is)) _ _ (c .before .refusal4 .given .0 .0)
+    refused _ _ (read-palettes-follows _ (header (b .before .before .before)) (pal-block b .is) (textures t .is)) _ _ (c .before .refusal4 .given .0 .0)
     (rw (c .before .refusal4 .given .1) at (p .read-palettes .ensures))
 
 pub lay-out-spec : {M : Type 1} → statement M
@@ -126,10 +114,7 @@ lay-out-spec =
     enum-known-header
     enum-known-refusal
     returns
-    cast-pal-block-len
-    mul-pal-block-len
-    cast-take
-    take-requires
+    take-pal-block-requires
     enum-known-refusal-2
     returns-2
     enum-told

@@ -19,14 +19,11 @@ lay-out-requires c κs = search needs
 enum-known-layout : tie.Need-enum-known-layout
 enum-known-layout c = search needs
 
-cast-pal-block-len : tie.Need-cast-pal-block-len
-cast-pal-block-len c = search needs
-
-mul-pal-block-len : tie.Need-mul-pal-block-len
-mul-pal-block-len c = search needs
-
 cast-part-at : tie.Need-cast-part-at
 cast-part-at c = search needs
+
+pal-block-len-requires : tie.Need-pal-block-len-requires
+pal-block-len-requires c κs = search needs
 
 part-at-requires : tie.Need-part-at-requires
 part-at-requires c κs = search needs
@@ -40,10 +37,11 @@ slice-aggregate-result c = search needs
 returns : tie.Need-returns
 unfolding palBlockOf layoutAnswer
 returns c =
-    let l = c .before .before .before .before in
+    let n = c .before in
+    let l = n .before .before .before in
     let b = now (l .before .before .before .before .before .args .block) in
     let o = ended _ _ (rw (l .before .layout .given .1) at (l .before .before .before .lay-out .ensures)) in
-    c .part-at .ensures
+    rw (n .pal-block-len .ensures .0) at (c .part-at .ensures)
     ∙ (ap (λ (x : Layout). takenPart (x .header .«pal_block_off») (8 * x .header .«pal_block_len_shr_3») b) (o .gives)
     ∙ (sym (pal-block-whole _ b (finished b (o .is) .pal-block)) ∙ ap partOf (whole-outcome _ (o .is))))
 
@@ -60,9 +58,8 @@ pal-block-spec =
     (tie.spec
     lay-out-requires
     enum-known-layout
-    cast-pal-block-len
-    mul-pal-block-len
     cast-part-at
+    pal-block-len-requires
     part-at-requires
     enum-told
     slice-aggregate-result

@@ -22,7 +22,7 @@ enum-told c = search needs
 
 -- the header is there
 there : (c : tie.After-enum-told) → 60 ≤ length (now (c .before .before .before .before .args .block))
-there c = take-within 0 60 _ (rw (c .enum-told .given .1) at (c .before .before .take .ensures))
+there c = omega (arith, take-within _ _ _ (rw (c .enum-told .given .1) at (c .before .before .take .ensures)))
 
 has-stamp-requires : tie.Need-has-stamp-requires
 has-stamp-requires c κs = there c
