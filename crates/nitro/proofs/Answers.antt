@@ -14,7 +14,8 @@ use Rattle.nitro.specs.Script.{Answer, short, fault, whole, run, outcome
 use Rattle.nitro.specs.InfoBlock.{listAt, listLength}
 use Rattle.nitro.specs.Tex as Tex
 use Rattle.nitro.specs.Tex.{Contents, headerOf, readTex}
-use Rattle.nitro.specs.Calls.{Counts, Answers, entry, textureEntry, paletteEntry, valueOr, countOf, layoutOf, readingOf, layoutWith}
+use Rattle.nitro.specs.Calls.{Counts, Answers, entry, textureEntry, paletteEntry, valueOr, readingOf}
+use Rattle.nitro.specs.Layouts.{countOf, layoutOf, layoutWith}
 use Rattle.nitro.specs.declared.errors.Kind.{Kind}
 use Rattle.nitro.specs.declared.errors.Kind.the-variants as kinds
 use Rattle.nitro.specs.declared.errors.Refusal.{Refusal}
@@ -132,7 +133,7 @@ pub record PaletteFound (n : ℕ) (b : List ℕ) (l : Layout) : Type 1 where
   pub palette : Tex.Palette
   pub within : l .header .«palette_off» + listLength kinds.Palette (l .palettes) ≤ length b
   pub below : n < l .palettes
-  pub at : palette ≡ Tex.paletteEntry (listAt kinds.Palette (l .header .«palette_off») (l .palettes) b) n
+  pub at : palette ≡ Tex.paletteAt (listAt kinds.Palette (l .header .«palette_off») (l .palettes) b) n
   pub entry : {B : Type 0} (f : Tex.Palette → B) → result (f palette) ≡ paletteEntry f n (run readTex b)
 
 pub palette-found : (n : ℕ) (b : List ℕ) {l : Layout} → result l ≡ layoutWith kinds.Palette n b (run readTex b) → PaletteFound n b l

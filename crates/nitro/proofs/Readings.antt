@@ -18,7 +18,7 @@ use Rattle.nitro.specs.Refusal.{badStamp}
 use Rattle.nitro.specs.Script.{Script, done, Answer, short, fault, whole, run, outcomeOf, bytesAt, each, _>>=_, _>>_}
 use Rattle.nitro.specs.InfoBlock.{NameList, listAt, listLength, nameList, entryName, entryNumber}
 use Rattle.nitro.specs.Tex as Tex
-use Rattle.nitro.specs.Tex.{Contents, hasStamp, headerOf, dataAt, secondAt, paletteEntry, readHeader, readPalBlock, readSecond, readData, readTexture, readTextures, readPalettes, readTex}
+use Rattle.nitro.specs.Tex.{Contents, hasStamp, headerOf, dataAt, secondAt, paletteAt, readHeader, readPalBlock, readSecond, readData, readTexture, readTextures, readPalettes, readTex}
 use Rattle.nitro.specs.declared.errors.Kind.the-variants as kinds
 use Rattle.nitro.specs.declared.tex.Header.{Header}
 use Rattle.nitro.proofs.Runs.{onward, both, bytes-in, bytes-whole, expect-met, expect-failed, expected, outcome-map, outcome-bind, outcome-same, each-count, each-done, each-length, each-at, Follows, follows-bind, follows-onward}
@@ -104,7 +104,7 @@ module _ (h : Header) (b : List ℕ) where
   unfolding readPalettes
   palettes-read =
       outcome-same _ _ _ (λ list e. each-done _ b 0 (list .count) (list .count) ∙ each-count _ b (list .count))
-      ∙ sym (outcome-bind (nameList kinds.Palette (h .«palette_off»)) b _ (λ list. each (list .count) (λ i. done (paletteEntry list i))))
+      ∙ sym (outcome-bind (nameList kinds.Palette (h .«palette_off»)) b _ (λ list. each (list .count) (λ i. done (paletteAt list i))))
 
 -- the whole reading, by how far it came
 module _ (b : List ℕ) where
@@ -227,21 +227,21 @@ module _ (h : Header) (b : List ℕ) {palettes : List Tex.Palette} (read : run (
   pub record PalettesListed : Type 0 where
     pub within : h .«palette_off» + listLength kinds.Palette (length palettes) ≤ length b
     pub at : (n : ℕ) (d : Tex.Palette) → n < length palettes
-        → getD palettes n d ≡ paletteEntry (listAt kinds.Palette (h .«palette_off») (length palettes) b) n
+        → getD palettes n d ≡ paletteAt (listAt kinds.Palette (h .«palette_off») (length palettes) b) n
 
   pub palettes-listed : PalettesListed
   unfolding readPalettes run
   palettes-listed =
       let o = both (nameList kinds.Palette (h .«palette_off»)) _ b read in
       let l = name-listed kinds.Palette (h .«palette_off») b (o .first) in
-      let c = each-length (λ i. done (paletteEntry (o .middle) i)) b 0 (o .middle .count) (o .second) in
+      let c = each-length (λ i. done (paletteAt (o .middle) i)) b 0 (o .middle .count) (o .second) in
       let is : o .middle ≡ listAt kinds.Palette (h .«palette_off») (length palettes) b = l .is ∙ rw c in
       record {
         within = rw c (l .within);
         at = λ n d below.
-            let e = each-at (λ i. done (paletteEntry (o .middle) i)) b 0 (o .middle .count) (o .second) n d (omega arith) in
-            let q : paletteEntry (o .middle) n ≡ getD palettes n d = cc (rw zero-add at e) in
-            sym q ∙ ap (λ list. paletteEntry list n) is;
+            let e = each-at (λ i. done (paletteAt (o .middle) i)) b 0 (o .middle .count) (o .second) n d (omega arith) in
+            let q : paletteAt (o .middle) n ≡ getD palettes n d = cc (rw zero-add at e) in
+            sym q ∙ ap (λ list. paletteAt list n) is;
       }
 
 -- the palette block

@@ -1,27 +1,19 @@
 -- What each call answers, as a function of the reading's answer and the call's other arguments. Assumes nothing.
 use Prim.Native.Nat.{ℕ, zero, suc}
 use mathlib.Core.Path.{_≡_}
-use mathlib.Core.Bool.{cond}
 use mathlib.Core.List.{List, [], _∷_}
-use lib.ListN.{length, replicate, take}
-use lib.Dec.{ltb}
+use lib.ListN.{length, replicate}
 use Rattle.util.specs.Outcome.{Outcome, result, refusal}
 use Rattle.nds.specs.Params.{repeatS, mirrorS, repeatT, mirrorT}
 use Rattle.nds.specs.Formats.{alpha}
 use Rattle.nds.specs.Wrap.{wrapOf}
 use Rattle.nitro.specs.Refusal.{absentNumber, refusalOutcome}
 use Rattle.nitro.specs.Script.{Answer, outcomeOf}
-use Rattle.nitro.specs.Tex.{Data, Texture, Palette, Contents, headerOf}
+use Rattle.nitro.specs.Tex.{Data, Texture, Palette, Contents}
 use Rattle.nitro.specs.declared.errors.Kind.{Kind}
 use Rattle.nitro.specs.declared.errors.Kind.the-variants as kind
 use Rattle.nitro.specs.declared.errors.Status.{Status}
 use Rattle.nitro.specs.declared.errors.Status.the-variants.{Done, Refused}
-use Rattle.nitro.specs.declared.tex.Header.{Header}
-use Rattle.nitro.specs.declared.tex.Layout.{Layout}
-use Rattle.nitro.specs.declared.tex.Headed.{Headed}
-use Rattle.nitro.specs.declared.tex.Headed.the-variants as headed
-use Rattle.nitro.specs.declared.tex.Laid.{Laid}
-use Rattle.nitro.specs.declared.tex.Laid.the-variants as laid
 use Rattle.nitro.specs.declared.tex.Reading.{Reading}
 use Rattle.nitro.specs.declared.tex.Reading.the-variants as reading
 use Rattle.nitro.specs.declared.tex.TextureRecord.{TextureRecord}
@@ -109,32 +101,3 @@ data2Of n a = partOf (textureEntry (λ t. t .parts .data2) n a)
 
 unfoldable pub palBlockOf : Answer Contents → List ℕ
 palBlockOf a = partOf (outcomeOf a λ c. result (c .palBlock))
-
--- What the functions between the calls and the script hand on: the header, and the layout, which is the header and both counts.
-abbrev pub headedOutcome : Headed → Outcome Header
-headedOutcome (headed.Found h) = result h
-headedOutcome (headed.Refused r) = refusalOutcome r
-
-abbrev pub laidOutcome : Laid → Outcome Layout
-laidOutcome (laid.Found l) = result l
-laidOutcome (laid.Refused r) = refusalOutcome r
-
-abbrev pub layoutOf : (block : List ℕ) → Contents → Layout
-layoutOf block c = record {
-  header = headerOf (take 60 block);
-  textures = length (c .textures);
-  palettes = length (c .palettes);
-}
-
-unfoldable pub layoutAnswer : (block : List ℕ) → Answer Contents → Outcome Layout
-layoutAnswer block a = outcomeOf a λ c. result (layoutOf block c)
-
-abbrev pub countOf : Kind → Layout → ℕ
-countOf kind.Texture l = l .textures
-countOf kind.Palette l = l .palettes
-
--- The layout of a block that has entry n in its list of kind k.
-unfoldable pub layoutWith : Kind → (n : ℕ) → (block : List ℕ) → Answer Contents → Outcome Layout
-layoutWith k n block a =
-    outcomeOf a λ c.
-    cond (ltb n (countOf k (layoutOf block c))) (result (layoutOf block c)) (refusal (absentNumber k) 0)

@@ -1,5 +1,6 @@
 pub mod Calls
 pub mod InfoBlock
+pub mod Layouts
 pub mod Name
 pub mod Output
 pub mod Refusal

@@ -69,11 +69,11 @@ readHeader = do
 unfoldable pub readPalBlock : Header → Script (List ℕ)
 readPalBlock h = bytesAt (h .«pal_block_off») (8 * h .«pal_block_len_shr_3»)
 
--- "Format 0 takes 0 bytes", which is its data length. "For format 5 .., then half as many bytes .. second data is an empty part for other
--- formats."
+-- "For format 5 .. then half as many bytes .. second data is an empty part for other formats."
 unfoldable pub readSecond : Header → (word : ℕ) → Script (List ℕ)
 readSecond h w = cond (eqb (format w) 5) (bytesAt (secondAt h w) (dataLength w / 2)) (done [])
 
+-- First data, then second. "Format 0 takes 0 bytes": its data length is 0, and the take of it may be short all the same.
 unfoldable pub readData : Header → (word : ℕ) → Script Data
 readData h w = do
   data1 ← bytesAt (dataAt h w) (dataLength w)
@@ -93,13 +93,13 @@ readTextures h = do
   each (list .count) (readTexture h list)
 
 -- ".. palette list." A palette's offset is the first 2 bytes of its datum, "in units of 8".
-abbrev pub paletteEntry : NameList → (i : ℕ) → Palette
-paletteEntry list i = record { name = entryName kind.Palette list i; off = 8 * entryNumber kind.Palette 2 list i }
+abbrev pub paletteAt : NameList → (i : ℕ) → Palette
+paletteAt list i = record { name = entryName kind.Palette list i; off = 8 * entryNumber kind.Palette 2 list i }
 
 unfoldable pub readPalettes : Header → Script (List Palette)
 readPalettes h = do
   list ← nameList kind.Palette (h .«palette_off»)
-  each (list .count) (λ i. done (paletteEntry list i))
+  each (list .count) (λ i. done (paletteAt list i))
 
 -- The reading.
 unfoldable pub readTex : Script Contents

@@ -18,7 +18,7 @@ ghost use Rattle.nitro.specs.Script.{run, outcomeOf, bytesAt};
 ghost use Rattle.nitro.specs.InfoBlock as InfoBlock;
 
 // Whether block holds n bytes at pos.
-pub fn take(block: &[u8], pos: usize, n: usize) -> Status
+pub(crate) fn take(block: &[u8], pos: usize, n: usize) -> Status
     requires { ⌜ pos + n < 2 ^ 64 ⌝ }
     ensures { λ r. ⌜ statusOutcome r ≡ outcomeOf (run (bytesAt pos n) (now (block .entry))) (λ _. result tt) ⌝ }
 {
@@ -29,7 +29,7 @@ pub fn take(block: &[u8], pos: usize, n: usize) -> Status
 }
 
 // The size of an entry's datum.
-pub fn datum_size(kind: Kind) -> usize
+pub(crate) fn datum_size(kind: Kind) -> usize
     ensures { λ r. ⌜ r ≡ InfoBlock.datumBytes kind ⌝ }
 {
     match kind {
@@ -75,7 +75,7 @@ pub fn read(block: &[u8], kind: Kind, pos: u32) -> Counted
 }
 
 // The name of entry n of the list of c entries at pos.
-pub fn entry_name(block: &[u8], kind: Kind, pos: usize, c: usize, n: usize) -> Name
+pub(crate) fn entry_name(block: &[u8], kind: Kind, pos: usize, c: usize, n: usize) -> Name
     requires { ⌜ (pos + InfoBlock.listLength kind c ≤ length (now block)) × (n < c) ⌝ }
     ensures { λ r. ⌜ r .0 ≡ InfoBlock.entryName kind (InfoBlock.listAt kind pos c (now (block .entry))) n ⌝ }
 {

@@ -13,7 +13,7 @@ ghost use Rattle.nitro.specs.Refusal.{countedOutcome};
 pub struct Name(pub [u8; 16]);
 
 // The name of the 16 bytes at pos.
-pub fn name_at(block: &[u8], pos: usize) -> Name
+pub(crate) fn name_at(block: &[u8], pos: usize) -> Name
     requires { ⌜ pos + 16 ≤ length (now block) ⌝ }
     ensures { λ r. ⌜ r .0 ≡ take 16 (drop pos (now (block .entry))) ⌝ }
 {

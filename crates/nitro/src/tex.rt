@@ -24,6 +24,7 @@ ghost use Rattle.nitro.specs.Script.{run, outcomeOf, each};
 ghost use Rattle.nitro.specs.InfoBlock.{listAt, listLength, entryName, entryNumber};
 ghost use Rattle.nitro.specs.Tex as Tex;
 ghost use Rattle.nitro.specs.Calls as Calls;
+ghost use Rattle.nitro.specs.Layouts as Layouts;
 ghost use Rattle.nitro.specs.declared.errors.Kind.the-variants as kinds;
 
 pub struct Header {
@@ -44,12 +45,12 @@ pub struct Layout {
     pub palettes: usize,
 }
 
-pub enum Headed {
+enum Headed {
     Found(Header),
     Refused(Refusal),
 }
 
-pub enum Laid {
+enum Laid {
     Found(Layout),
     Refused(Refusal),
 }
@@ -119,7 +120,7 @@ fn header_of(block: &[u8]) -> Header
 
 // Reads the header, and then checks its stamp.
 fn read_header(block: &[u8]) -> Headed
-    ensures { λ r. ⌜ Calls.headedOutcome r ≡ outcomeOf (run Tex.readHeader (now (block .entry))) result ⌝ }
+    ensures { λ r. ⌜ Layouts.headedOutcome r ≡ outcomeOf (run Tex.readHeader (now (block .entry))) result ⌝ }
 {
     match take(block, 0, 60) {
         Status::Refused(refusal) => Headed::Refused(refusal),
@@ -243,7 +244,7 @@ fn read_palettes(block: &[u8], header: Header) -> Counted
 
 // Reads the block: header, palette block, textures, palettes.
 fn lay_out(block: &[u8]) -> Laid
-    ensures { λ r. ⌜ Calls.laidOutcome r ≡ Calls.layoutAnswer (now (block .entry)) (run Tex.readTex (now (block .entry))) ⌝ }
+    ensures { λ r. ⌜ Layouts.laidOutcome r ≡ Layouts.layoutAnswer (now (block .entry)) (run Tex.readTex (now (block .entry))) ⌝ }
 {
     let header = match read_header(block) {
         Headed::Found(header) => header,
@@ -267,7 +268,7 @@ fn lay_out(block: &[u8]) -> Laid
 }
 
 fn count_of(kind: Kind, layout: Layout) -> usize
-    ensures { λ r. ⌜ r ≡ Calls.countOf kind layout ⌝ }
+    ensures { λ r. ⌜ r ≡ Layouts.countOf kind layout ⌝ }
 {
     match kind {
         Kind::Texture => layout.textures,
@@ -277,7 +278,7 @@ fn count_of(kind: Kind, layout: Layout) -> usize
 
 // The layout of a block whose list of the kind has an entry n.
 fn find(block: &[u8], kind: Kind, n: usize) -> Laid
-    ensures { λ r. ⌜ Calls.laidOutcome r ≡ Calls.layoutWith kind n (now (block .entry)) (run Tex.readTex (now (block .entry))) ⌝ }
+    ensures { λ r. ⌜ Layouts.laidOutcome r ≡ Layouts.layoutWith kind n (now (block .entry)) (run Tex.readTex (now (block .entry))) ⌝ }
 {
     match lay_out(block) {
         Laid::Refused(refusal) => Laid::Refused(refusal),

@@ -4,7 +4,7 @@ use native.Mathlib.Omega.{arith}
 use borrow.Author.Tests.{lt-ltb, le-ltb}
 use borrow.Author.Needs.{needs}
 use Rattle.util.specs.Outcome.{result}
-use Rattle.nitro.specs.Calls.{layoutAnswer, layoutWith}
+use Rattle.nitro.specs.Layouts.{layoutAnswer, layoutWith}
 use Rattle.nitro.proofs.Answers.{with-entry, without-entry}
 use Rattle.nitro.proofs.Runs.{ended, whole-outcome, follows-self, refused}
 use Rattle.nitro.proofs.tex.find.Statement.{statement}

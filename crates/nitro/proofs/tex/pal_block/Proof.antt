@@ -5,7 +5,8 @@ use mathlib.Core.List.{[]}
 use denote.Ref.{now}
 use borrow.Author.Needs.{needs}
 use Rattle.util.specs.Take.{takenPart}
-use Rattle.nitro.specs.Calls.{layoutAnswer, partOf, palBlockOf}
+use Rattle.nitro.specs.Calls.{partOf, palBlockOf}
+use Rattle.nitro.specs.Layouts.{layoutAnswer}
 use Rattle.nitro.specs.declared.tex.Layout.{Layout}
 use Rattle.nitro.proofs.Runs.{ended, whole-outcome, follows-self, refused}
 use Rattle.nitro.proofs.Readings.{finished, pal-block-whole}

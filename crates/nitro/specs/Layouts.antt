@@ -1,0 +1,47 @@
+-- What the functions between the script and the calls hand on: the header, and the layout, which is the header and both counts. No call
+-- answers with either. Assumes nothing.
+use Prim.Native.Nat.{ℕ}
+use mathlib.Core.Bool.{cond}
+use mathlib.Core.List.{List}
+use lib.ListN.{length, take}
+use lib.Dec.{ltb}
+use Rattle.util.specs.Outcome.{Outcome, result, refusal}
+use Rattle.nitro.specs.Refusal.{absentNumber, refusalOutcome}
+use Rattle.nitro.specs.Script.{Answer, outcomeOf}
+use Rattle.nitro.specs.Tex.{Contents, headerOf}
+use Rattle.nitro.specs.declared.errors.Kind.{Kind}
+use Rattle.nitro.specs.declared.errors.Kind.the-variants as kind
+use Rattle.nitro.specs.declared.tex.Header.{Header}
+use Rattle.nitro.specs.declared.tex.Layout.{Layout}
+use Rattle.nitro.specs.declared.tex.Headed.{Headed}
+use Rattle.nitro.specs.declared.tex.Headed.the-variants as headed
+use Rattle.nitro.specs.declared.tex.Laid.{Laid}
+use Rattle.nitro.specs.declared.tex.Laid.the-variants as laid
+
+abbrev pub headedOutcome : Headed → Outcome Header
+headedOutcome (headed.Found h) = result h
+headedOutcome (headed.Refused r) = refusalOutcome r
+
+abbrev pub laidOutcome : Laid → Outcome Layout
+laidOutcome (laid.Found l) = result l
+laidOutcome (laid.Refused r) = refusalOutcome r
+
+abbrev pub layoutOf : (block : List ℕ) → Contents → Layout
+layoutOf block c = record {
+  header = headerOf (take 60 block);
+  textures = length (c .textures);
+  palettes = length (c .palettes);
+}
+
+unfoldable pub layoutAnswer : (block : List ℕ) → Answer Contents → Outcome Layout
+layoutAnswer block a = outcomeOf a λ c. result (layoutOf block c)
+
+abbrev pub countOf : Kind → Layout → ℕ
+countOf kind.Texture l = l .textures
+countOf kind.Palette l = l .palettes
+
+-- The layout of a block that has entry n in its list of kind k.
+unfoldable pub layoutWith : Kind → (n : ℕ) → (block : List ℕ) → Answer Contents → Outcome Layout
+layoutWith k n block a =
+    outcomeOf a λ c.
+    cond (ltb n (countOf k (layoutOf block c))) (result (layoutOf block c)) (refusal (absentNumber k) 0)
