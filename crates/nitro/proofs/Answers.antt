@@ -14,7 +14,7 @@ use Rattle.nitro.specs.Script.{Answer, short, fault, whole, run, outcome
 use Rattle.nitro.specs.InfoBlock.{listAt, listLength}
 use Rattle.nitro.specs.Tex as Tex
 use Rattle.nitro.specs.Tex.{Contents, headerOf, readTex}
-use Rattle.nitro.specs.Calls.{Counts, Answers, entry, textureEntry, paletteEntry, valueOr, readingOf}
+use Rattle.nitro.specs.Calls.{Answers, entry, textureEntry, paletteEntry, valueOr, readingOf}
 use Rattle.nitro.specs.Layouts.{countOf, layoutOf, layoutWith}
 use Rattle.nitro.specs.declared.errors.Kind.{Kind}
 use Rattle.nitro.specs.declared.errors.Kind.the-variants as kinds

@@ -1,17 +1,15 @@
 -- The laws of name lists. Assumes nothing.
 use Prim.Native.Nat.{ℕ, _+_, _*_, _^_, _≤_, _<_}
 use mathlib.Core.Path.{_≡_, sym, ap, _∙_, subst}
-use mathlib.Core.Bool.{true, false}
 use mathlib.Core.List.{List}
 use native.Mathlib.Omega.{arith}
-use lib.ListN.{length, take, drop}
-use lib.Dec.{eqb}
+use lib.ListN.{length}
 use borrow.Author.Tests.{eq-eqb, ne-eqb}
 use Rattle.util.specs.Number.{numberAt}
 use Rattle.util.specs.Outcome.{result}
 use Rattle.util.proofs.Numbers.{number-in-part}
 use Rattle.nitro.specs.Refusal.{badDummy, badSize}
-use Rattle.nitro.specs.Script.{Answer, short, fault, whole, run, outcomeOf, done, bytesAt, expect, _>>=_, _>>_}
+use Rattle.nitro.specs.Script.{fault, whole, run, outcomeOf, bytesAt}
 use Rattle.nitro.specs.InfoBlock.{NameList, datumBytes, sizeAt, listLength, listAt, wholeList, nameList}
 use Rattle.nitro.specs.declared.errors.Kind.{Kind}
 use Rattle.nitro.specs.declared.errors.Kind.the-variants.{Texture, Palette}

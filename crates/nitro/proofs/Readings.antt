@@ -1,27 +1,29 @@
 -- The laws of the reading: what its parts come to, and where what it found stands in the block. Assumes nothing.
-use Prim.Native.Nat.{ℕ, _+_, _*_, _^_, _/_, _≤_, _<_}
+use Prim.Native.Nat.{ℕ, _+_, _*_, _/_, _≤_, _<_}
 use mathlib.Core.Path.{_≡_, refl, sym, ap, _∙_, subst}
-use mathlib.Core.Bool.{Bool, true, false, cond}
+use mathlib.Core.Bool.{Bool, true, false}
 use mathlib.Core.List.{List, []}
 use native.Mathlib.Nat.{zero-add}
 use native.Mathlib.Omega.{arith}
-use lib.ListN.{length, take, drop, getD}
+use lib.ListN.{length, take, getD}
 use lib.Seq.{getD-take}
 use lib.Dec.{eqb, lit<}
 use borrow.Author.Tests.{eq-eqb, ne-eqb}
-use Rattle.util.specs.Outcome.{Outcome, result, refusal}
+use Rattle.util.specs.Outcome.{result}
 use Rattle.util.specs.Take.{takenPart}
 use Rattle.util.proofs.Takes.{part-there, part-empty}
-use Rattle.nds.specs.Params.{format, offset}
+use Rattle.nds.specs.Params.{format}
 use Rattle.nds.specs.Formats.{dataLength, secondLength}
 use Rattle.nitro.specs.Refusal.{badStamp}
-use Rattle.nitro.specs.Script.{Script, done, Answer, short, fault, whole, run, outcomeOf, bytesAt, each, _>>=_, _>>_}
+use Rattle.nitro.specs.Script.{done, fault, whole, run, outcomeOf, bytesAt, each}
 use Rattle.nitro.specs.InfoBlock.{NameList, listAt, listLength, nameList, entryName, entryNumber}
 use Rattle.nitro.specs.Tex as Tex
-use Rattle.nitro.specs.Tex.{Contents, hasStamp, headerOf, dataAt, secondAt, paletteAt, readHeader, readPalBlock, readSecond, readData, readTexture, readTextures, readPalettes, readTex}
+use Rattle.nitro.specs.Tex.{Contents, hasStamp, headerOf, dataAt, secondAt, paletteAt, readHeader, readPalBlock, readSecond, readData}
+use Rattle.nitro.specs.Tex.{readTexture, readTextures, readPalettes, readTex}
 use Rattle.nitro.specs.declared.errors.Kind.the-variants as kinds
 use Rattle.nitro.specs.declared.tex.Header.{Header}
-use Rattle.nitro.proofs.Runs.{onward, both, bytes-in, bytes-whole, expect-met, expect-failed, expected, outcome-map, outcome-bind, outcome-same, each-count, each-done, each-length, each-at, Follows, follows-bind, follows-onward}
+use Rattle.nitro.proofs.Runs.{onward, both, bytes-in, bytes-whole, expect-met, expect-failed, expected, outcome-map, outcome-bind}
+use Rattle.nitro.proofs.Runs.{outcome-same, each-count, each-done, each-length, each-at, Follows, follows-bind, follows-onward}
 use Rattle.nitro.proofs.Lists.{name-listed}
 
 -- the stamp, where it stands in the block
@@ -92,12 +94,9 @@ module _ (h : Header) (b : List ℕ) where
   textures-follow = follows-bind (nameList kinds.Texture (h .«texture_off»)) _ b
 
   pub textures-read : {list : NameList} → run (nameList kinds.Texture (h .«texture_off»)) b ≡ whole list
-      → outcomeOf (run (each (list .count) (readTexture h list)) b) (λ _. result (list .count))
-      ≡ outcomeOf (run (readTextures h) b) (λ textures. result (length textures))
+      → run (each (list .count) (readTexture h list)) b ≡ run (readTextures h) b
   unfolding readTextures
-  textures-read {list} e =
-      each-count (readTexture h list) b (list .count)
-      ∙ ap (λ x. outcomeOf x (λ textures. result (length textures))) (sym (onward (nameList kinds.Texture (h .«texture_off»)) _ b e))
+  textures-read e = sym (onward (nameList kinds.Texture (h .«texture_off»)) _ b e)
 
   pub palettes-read : outcomeOf (run (nameList kinds.Palette (h .«palette_off»)) b) (λ list. result (list .count))
       ≡ outcomeOf (run (readPalettes h) b) (λ palettes. result (length palettes))

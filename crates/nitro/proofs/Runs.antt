@@ -1,16 +1,17 @@
 -- The laws of `run` and `outcomeOf`: what a script comes to, by its steps. Assumes nothing.
 use Prim.Native.Nat.{ℕ, zero, suc, _+_, _≤_, _<_}
 use mathlib.Core.Path.{_≡_, refl, sym, ap, _∙_}
-use mathlib.Core.Bool.{Bool, true, false, cond}
+use mathlib.Core.Bool.{Bool, true, false}
 use mathlib.Core.List.{List, [], _∷_}
 use native.Mathlib.Nat.{add-zero, add-suc, suc-add, le-of-suc-le-suc, not-suc-le-zero}
 use native.Mathlib.Omega.{arith}
 use lib.ListN.{length, take, drop, getD}
 use lib.Dec.{leb}
-use borrow.Author.Tests.{le-leb, lt-leb, leb-true, leb-false}
+use borrow.Author.Tests.{le-leb, lt-leb, leb-true}
 use Rattle.util.specs.Outcome.{Outcome, result, refusal}
 use Rattle.nitro.specs.Refusal.{Fault, faultNumber, refusalOutcome}
-use Rattle.nitro.specs.Script.{Script, done, refuse, get, Answer, short, fault, whole, run, outcomeOf, bytesAt, expect, eachFrom, _>>=_, _>>_}
+use Rattle.nitro.specs.Script.{Script, done, refuse, get, Answer, short, fault, whole, run, outcomeOf, bytesAt, expect, eachFrom}
+use Rattle.nitro.specs.Script.{_>>=_, _>>_}
 use Rattle.nitro.specs.declared.errors.Refusal.{Refusal}
 use Rattle.nitro.specs.declared.errors.Refusal.the-variants.{Short, Stamp, Dummy, DatumSize, Number, Output}
 

@@ -9,7 +9,7 @@ use Rattle.nds.specs.Formats.{alpha}
 use Rattle.nds.specs.Wrap.{wrapOf}
 use Rattle.nitro.specs.Refusal.{absentNumber, refusalOutcome}
 use Rattle.nitro.specs.Script.{Answer, outcomeOf}
-use Rattle.nitro.specs.Tex.{Data, Texture, Palette, Contents}
+use Rattle.nitro.specs.Tex.{Texture, Palette, Contents}
 use Rattle.nitro.specs.declared.errors.Kind.{Kind}
 use Rattle.nitro.specs.declared.errors.Kind.the-variants as kind
 use Rattle.nitro.specs.declared.errors.Status.{Status}

@@ -1,5 +1,5 @@
--- What the functions between the script and the calls hand on: the header, and the layout, which is the header and both counts. No call
--- answers with either. Assumes nothing.
+-- What the functions between the script and the calls hand on: that a step passed, a count, the header, and the layout, which is the
+-- header and both counts. No public call of `tex.rt` answers with these. Assumes nothing.
 use Prim.Native.Nat.{ℕ}
 use mathlib.Core.Bool.{cond}
 use mathlib.Core.List.{List}
@@ -7,8 +7,9 @@ use lib.ListN.{length, take}
 use lib.Dec.{ltb}
 use Rattle.util.specs.Outcome.{Outcome, result, refusal}
 use Rattle.nitro.specs.Refusal.{absentNumber, refusalOutcome}
-use Rattle.nitro.specs.Script.{Answer, outcomeOf}
-use Rattle.nitro.specs.Tex.{Contents, headerOf}
+use Rattle.nitro.specs.Script.{Script, Answer, run, outcomeOf, each}
+use Rattle.nitro.specs.InfoBlock.{NameList, listAt}
+use Rattle.nitro.specs.Tex.{Texture, Contents, headerOf, readTexture}
 use Rattle.nitro.specs.declared.errors.Kind.{Kind}
 use Rattle.nitro.specs.declared.errors.Kind.the-variants as kind
 use Rattle.nitro.specs.declared.tex.Header.{Header}
@@ -17,6 +18,21 @@ use Rattle.nitro.specs.declared.tex.Headed.{Headed}
 use Rattle.nitro.specs.declared.tex.Headed.the-variants as headed
 use Rattle.nitro.specs.declared.tex.Laid.{Laid}
 use Rattle.nitro.specs.declared.tex.Laid.the-variants as laid
+
+-- That a script reached its end.
+abbrev pub passing : {A : Type 0} → Script A → (block : List ℕ) → Outcome (Unit {0})
+passing s block = outcomeOf (run s block) λ _. result tt
+
+-- How many things it came to.
+abbrev pub counting : {A : Type 0} → Script (List A) → (block : List ℕ) → Outcome ℕ
+counting s block = outcomeOf (run s block) λ found. result (length found)
+
+abbrev pub countingList : Script NameList → (block : List ℕ) → Outcome ℕ
+countingList s block = outcomeOf (run s block) λ list. result (list .count)
+
+-- The textures of a list of c entries that stands in the block.
+abbrev pub textureRow : Header → (c : ℕ) (block : List ℕ) → Script (List Texture)
+textureRow h c block = each c (readTexture h (listAt kind.Texture (h .«texture_off») c block))
 
 abbrev pub headedOutcome : Headed → Outcome Header
 headedOutcome (headed.Found h) = result h

@@ -12,15 +12,15 @@ use util::view::view_u16;
 ghost use mathlib.Core.Path.{_≡_};
 ghost use Prim.Native.Nat.{_+_, _<_, _≤_, _^_};
 ghost use lib.ListN.{length};
-ghost use Rattle.util.specs.Outcome.{result};
 ghost use Rattle.nitro.specs.Refusal.{statusOutcome, countedOutcome};
-ghost use Rattle.nitro.specs.Script.{run, outcomeOf, bytesAt};
+ghost use Rattle.nitro.specs.Script.{bytesAt};
 ghost use Rattle.nitro.specs.InfoBlock as InfoBlock;
+ghost use Rattle.nitro.specs.Layouts.{passing, countingList};
 
 // Whether block holds n bytes at pos.
 pub(crate) fn take(block: &[u8], pos: usize, n: usize) -> Status
     requires { ⌜ pos + n < 2 ^ 64 ⌝ }
-    ensures { λ r. ⌜ statusOutcome r ≡ outcomeOf (run (bytesAt pos n) (now (block .entry))) (λ _. result tt) ⌝ }
+    ensures { λ r. ⌜ statusOutcome r ≡ passing (bytesAt pos n) (now (block .entry)) ⌝ }
 {
     match take_at(block, pos, n) {
         Taken::Whole(_) => Status::Done,
@@ -41,7 +41,7 @@ pub(crate) fn datum_size(kind: Kind) -> usize
 // Reads the list of c entries at pos whole, and checks it.
 fn read_whole(block: &[u8], kind: Kind, pos: usize, c: usize) -> Counted
     requires { ⌜ (pos < 2 ^ 32) × (c < 2 ^ 8) ⌝ }
-    ensures { λ r. ⌜ countedOutcome r ≡ outcomeOf (run (InfoBlock.wholeList kind pos c) (now (block .entry))) (λ list. result (list .count)) ⌝ }
+    ensures { λ r. ⌜ countedOutcome r ≡ countingList (InfoBlock.wholeList kind pos c) (now (block .entry)) ⌝ }
 {
     let size = datum_size(kind);
     match take(block, pos, 16 + 4 * c + size * c + 16 * c) {
@@ -62,7 +62,7 @@ fn read_whole(block: &[u8], kind: Kind, pos: usize, c: usize) -> Counted
 
 // Reads the list at pos: its count, then the whole list, then its dummy and its datum size. Answers with the count.
 pub fn read(block: &[u8], kind: Kind, pos: u32) -> Counted
-    ensures { λ r. ⌜ countedOutcome r ≡ outcomeOf (run (InfoBlock.nameList kind pos) (now (block .entry))) (λ list. result (list .count)) ⌝ }
+    ensures { λ r. ⌜ countedOutcome r ≡ countingList (InfoBlock.nameList kind pos) (now (block .entry)) ⌝ }
 {
     let pos = pos as usize;
     match take(block, pos, 2) {

@@ -20,7 +20,7 @@ ghost use Prim.Native.Nat.{_+_, _*_, _<_, _≤_, _^_};
 ghost use lib.ListN.{length, take as firstBytes};
 ghost use Rattle.util.specs.Outcome.{result};
 ghost use Rattle.nitro.specs.Refusal.{statusOutcome, countedOutcome};
-ghost use Rattle.nitro.specs.Script.{run, outcomeOf, each};
+ghost use Rattle.nitro.specs.Script.{run, outcomeOf};
 ghost use Rattle.nitro.specs.InfoBlock.{listAt, listLength, entryName, entryNumber};
 ghost use Rattle.nitro.specs.Tex as Tex;
 ghost use Rattle.nitro.specs.Calls as Calls;
@@ -144,7 +144,7 @@ fn pal_block_len(header: Header) -> usize
 
 // Whether the palette block is there.
 fn take_pal_block(block: &[u8], header: Header) -> Status
-    ensures { λ r. ⌜ statusOutcome r ≡ outcomeOf (run (Tex.readPalBlock header) (now (block .entry))) (λ _. result tt) ⌝ }
+    ensures { λ r. ⌜ statusOutcome r ≡ Layouts.passing (Tex.readPalBlock header) (now (block .entry)) ⌝ }
 {
     take(block, header.pal_block_off as usize, pal_block_len(header))
 }
@@ -172,7 +172,7 @@ fn data2_pos(header: Header, params: TextureParams) -> usize
 
 // Whether the second data is there, for a texture that has any.
 fn take_data2(block: &[u8], header: Header, params: TextureParams) -> Status
-    ensures { λ r. ⌜ statusOutcome r ≡ outcomeOf (run (Tex.readSecond header (params .0)) (now (block .entry))) (λ _. result tt) ⌝ }
+    ensures { λ r. ⌜ statusOutcome r ≡ Layouts.passing (Tex.readSecond header (params .0)) (now (block .entry)) ⌝ }
 {
     let format = params.format();
     if format.0 == 5 {
@@ -184,7 +184,7 @@ fn take_data2(block: &[u8], header: Header, params: TextureParams) -> Status
 
 // Whether a texture's data are there, the first and then the second. A texture of format 0 has 0 bytes, and a position all the same.
 fn take_data(block: &[u8], header: Header, params: TextureParams) -> Status
-    ensures { λ r. ⌜ statusOutcome r ≡ outcomeOf (run (Tex.readData header (params .0)) (now (block .entry))) (λ _. result tt) ⌝ }
+    ensures { λ r. ⌜ statusOutcome r ≡ Layouts.passing (Tex.readData header (params .0)) (now (block .entry)) ⌝ }
 {
     match take(block, data1_pos(header, params), params.byte_len()) {
         Status::Refused(refusal) => Status::Refused(refusal),
@@ -211,7 +211,7 @@ fn off_at(block: &[u8], pos: usize, count: usize, n: usize) -> u32
 // Whether the data of all textures are there, in list order.
 fn take_all_data(block: &[u8], header: Header, count: usize) -> Counted
     requires { ⌜ header .«texture_off» + listLength kinds.Texture count ≤ length (now block) ⌝ }
-    ensures { λ r. ⌜ countedOutcome r ≡ outcomeOf (run (each count (Tex.readTexture header (listAt kinds.Texture (header .«texture_off») count (now (block .entry))))) (now (block .entry))) (λ _. result count) ⌝ }
+    ensures { λ r. ⌜ countedOutcome r ≡ Layouts.counting (Layouts.textureRow header count (now (block .entry))) (now (block .entry)) ⌝ }
 {
     let pos = header.texture_off as usize;
     let mut i = 0;
@@ -227,7 +227,7 @@ fn take_all_data(block: &[u8], header: Header, count: usize) -> Counted
 
 // Reads the texture list, and then each texture's data.
 fn read_textures(block: &[u8], header: Header) -> Counted
-    ensures { λ r. ⌜ countedOutcome r ≡ outcomeOf (run (Tex.readTextures header) (now (block .entry))) (λ textures. result (length textures)) ⌝ }
+    ensures { λ r. ⌜ countedOutcome r ≡ Layouts.counting (Tex.readTextures header) (now (block .entry)) ⌝ }
 {
     match info_block::read(block, Kind::Texture, header.texture_off as u32) {
         Counted::Refused(refusal) => Counted::Refused(refusal),
@@ -237,7 +237,7 @@ fn read_textures(block: &[u8], header: Header) -> Counted
 
 // Reads the palette list.
 fn read_palettes(block: &[u8], header: Header) -> Counted
-    ensures { λ r. ⌜ countedOutcome r ≡ outcomeOf (run (Tex.readPalettes header) (now (block .entry))) (λ palettes. result (length palettes)) ⌝ }
+    ensures { λ r. ⌜ countedOutcome r ≡ Layouts.counting (Tex.readPalettes header) (now (block .entry)) ⌝ }
 {
     info_block::read(block, Kind::Palette, header.palette_off)
 }

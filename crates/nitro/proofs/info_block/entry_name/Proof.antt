@@ -1,8 +1,6 @@
 -- `nitro::info_block::entry_name` meets its contract: a name within the list is one within the block. Assumes nothing.
-use Prim.Native.Nat.{_+_, _*_}
-use mathlib.Core.Path.{sym, ap, _∙_}
+use mathlib.Core.Path.{sym, _∙_}
 use native.Mathlib.Omega.{arith}
-use lib.ListN.{take, drop}
 use denote.Ref.{now}
 use borrow.Author.Needs.{needs}
 use Rattle.util.proofs.Parts.{part-of-part}

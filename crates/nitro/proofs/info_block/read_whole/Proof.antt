@@ -1,7 +1,6 @@
 -- `nitro::info_block::read_whole` meets its contract: each return is an outcome of `wholeList`. Assumes nothing.
 use Prim.Native.Nat.{_+_, _≤_}
-use mathlib.Core.Path.{ap, sym, _∙_}
-use mathlib.Core.Path.{ap, sym, _∙_, subst}
+use mathlib.Core.Path.{sym, _∙_}
 use native.Mathlib.Omega.{arith}
 use lib.ListN.{length}
 use denote.Ref.{now}

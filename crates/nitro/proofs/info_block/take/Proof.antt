@@ -1,5 +1,5 @@
 -- `nitro::info_block::take` meets its contract: the case that `take_at` answers says whether the bytes are there. Assumes nothing.
-use mathlib.Core.Path.{ap, sym, _∙_}
+use mathlib.Core.Path.{ap, _∙_}
 use native.Mathlib.Omega.{arith}
 use borrow.Author.Needs.{needs}
 use Rattle.util.specs.Outcome.{refusal}

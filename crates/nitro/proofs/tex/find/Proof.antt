@@ -1,12 +1,8 @@
 -- `nitro::tex::find` meets its contract: the entry is there exactly if its number is below the count. Assumes nothing.
-use mathlib.Core.Path.{_≡_, ap, sym, _∙_}
-use native.Mathlib.Omega.{arith}
-use borrow.Author.Tests.{lt-ltb, le-ltb}
 use borrow.Author.Needs.{needs}
-use Rattle.util.specs.Outcome.{result}
 use Rattle.nitro.specs.Layouts.{layoutAnswer, layoutWith}
 use Rattle.nitro.proofs.Answers.{with-entry, without-entry}
-use Rattle.nitro.proofs.Runs.{ended, whole-outcome, follows-self, refused}
+use Rattle.nitro.proofs.Runs.{ended, follows-self, refused}
 use Rattle.nitro.proofs.tex.find.Statement.{statement}
 use Rattle.nitro.proofs.tex.find.Tie as tie
 

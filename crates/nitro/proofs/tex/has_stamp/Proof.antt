@@ -1,11 +1,8 @@
 -- `nitro::tex::has_stamp` meets its contract: its tests are those of `hasStamp`, in order. Assumes nothing.
 use mathlib.Core.Path.{_≡_, sym, _∙_}
 use mathlib.Core.Bool.{false}
-use mathlib.Core.Path.{sym, _∙_}
-use native.Mathlib.Omega.{arith}
 use lib.Dec.{eqb}
 use lib.ListN.{getD}
-use lib.Seq.{getD-take}
 use denote.Ref.{now}
 use borrow.Author.Tests.{eq-eqb, ne-eqb}
 use borrow.Author.Needs.{needs}

@@ -7,7 +7,8 @@ use Rattle.nitro.specs.Script.{run, whole}
 use Rattle.nitro.specs.Tex.{readHeader, readPalBlock, readTextures}
 use Rattle.nitro.specs.Layouts.{layoutAnswer}
 use Rattle.nitro.proofs.Runs.{Ended, ended, whole-outcome, refused}
-use Rattle.nitro.proofs.Readings.{header-whole, read-header-follows, read-pal-block-follows, read-textures-follows, read-palettes-follows, read-whole}
+use Rattle.nitro.proofs.Readings.{header-whole, read-header-follows, read-pal-block-follows, read-textures-follows}
+use Rattle.nitro.proofs.Readings.{read-palettes-follows, read-whole}
 use Rattle.nitro.proofs.tex.lay_out.Statement.{statement}
 use Rattle.nitro.proofs.tex.lay_out.Tie as tie
 

@@ -1,5 +1,5 @@
 -- `nitro::tex::palette` meets its contract: the layout that was found says where palette n stands. Assumes nothing.
-use mathlib.Core.Path.{refl, sym, ap, _∙_}
+use mathlib.Core.Path.{refl, ap, _∙_}
 use native.Mathlib.Omega.{arith}
 use denote.Ref.{now}
 use borrow.Author.Needs.{needs}

@@ -1,5 +1,4 @@
 -- `nitro::tex::params_at` meets its contract. Assumes nothing.
-use Prim.Native.Nat.{_+_, _*_}
 use mathlib.Core.Path.{sym, _∙_}
 use native.Mathlib.Omega.{arith}
 use denote.Ref.{now}

@@ -1,11 +1,10 @@
 -- `nitro::tex::read_tex` meets its contract. Assumes nothing.
-use mathlib.Core.Path.{_≡_, ap, sym, _∙_}
 use denote.Ref.{now}
 use borrow.Author.Needs.{needs}
 use Rattle.nitro.specs.Calls.{readingOf}
 use Rattle.nitro.specs.Layouts.{layoutAnswer}
 use Rattle.nitro.proofs.Answers.{reading-laid}
-use Rattle.nitro.proofs.Runs.{ended, whole-outcome, follows-self, refused}
+use Rattle.nitro.proofs.Runs.{ended, follows-self, refused}
 use Rattle.nitro.proofs.tex.read_tex.Statement.{statement}
 use Rattle.nitro.proofs.tex.read_tex.Tie as tie
 

@@ -1,14 +1,12 @@
--- `nitro::tex::read_textures` meets its contract: the list that was read stands in the block, and its textures are read from there. Assumes nothing.
-use Prim.Native.Nat.{ℕ, _+_, _≤_}
-use mathlib.Core.Path.{_≡_, ap, sym, _∙_}
-use native.Mathlib.Omega.{arith}
+-- `nitro::tex::read_textures` meets its contract: the list that was read stands in the block, and its textures are read from there.
+-- Assumes nothing.
+use mathlib.Core.Path.{_≡_, ap, _∙_}
 use lib.ListN.{length}
 use denote.Ref.{now}
 use borrow.Author.Needs.{needs}
 use Rattle.util.specs.Outcome.{result}
-use Rattle.nitro.specs.Script.{run, whole, outcomeOf, each}
-use Rattle.nitro.specs.InfoBlock.{NameList, listAt, nameList}
-use Rattle.nitro.specs.Tex.{readTexture}
+use Rattle.nitro.specs.Script.{run, whole, outcomeOf}
+use Rattle.nitro.specs.InfoBlock.{listAt, nameList}
 use Rattle.nitro.specs.declared.errors.Kind.the-variants.{Texture}
 use Rattle.nitro.proofs.Runs.{refused}
 use Rattle.nitro.proofs.Lists.{name-listed, list-counted}
@@ -44,7 +42,7 @@ returns c =
     (rw (c .before .refusal .given .1) at (c .before .before .before .read .ensures))
 
 returns-2 : tie.Need-returns-2
-returns-2 c = c .take-all-data .ensures ∙ textures-read _ _ (list (c .before))
+returns-2 c = c .take-all-data .ensures ∙ ap (λ x. outcomeOf x (λ found. result (length found))) (textures-read _ _ (list (c .before)))
 
 pub read-textures-spec : {M : Type 1} → statement M
 read-textures-spec =

@@ -11,9 +11,10 @@ use Rattle.util.specs.Outcome.{Outcome, result}
 use Rattle.nitro.specs.Script.{Script, run, outcomeOf, eachFrom}
 use Rattle.nitro.specs.InfoBlock.{listAt}
 use Rattle.nitro.specs.Tex.{Texture, readTexture}
+use Rattle.nitro.specs.Layouts.{counting, textureRow}
 use Rattle.nitro.specs.declared.errors.Kind.the-variants as kinds
 use Rattle.nitro.specs.declared.tex.Header.{Header}
-use Rattle.nitro.proofs.Runs.{ended, each-turn, each-none, each-follows, follows-trans, refused}
+use Rattle.nitro.proofs.Runs.{ended, each-turn, each-none, each-count, each-follows, follows-trans, refused}
 use Rattle.nitro.proofs.Readings.{texture-follows, texture-read}
 use Rattle.nitro.proofs.tex.take_all_data.Statement.{statement}
 use Rattle.nitro.proofs.tex.take_all_data.Tie as tie
@@ -27,7 +28,7 @@ module _ (block : List ℕ) (header : Header) (count : ℕ) where
   row i n = outcomeOf (run (eachFrom i n script) block) (λ _. result count)
 
 abbrev Inv-loop : tie.InvT-loop
-Inv-loop block header count pos i₀ i = (i ≤ count) × (row block header count i (count - i) ≡ row block header count 0 count)
+Inv-loop block header count pos i₀ i = (i ≤ count) × (row block header count i (count - i) ≡ counting (textureRow header count block) block)
 
 abbrev μ-loop : tie.MeasureT-loop
 μ-loop block header count pos i₀ i = count - i
@@ -39,7 +40,7 @@ loop-holds : tie.Need-loop-holds Inv-loop μ-loop
 loop-holds c =
     let a = c .before .before .args in
     let e : a .count - 0 ≡ a .count = omega arith in
-    (omega arith, ap (row (now (a .block)) (a .header) (a .count) 0) e)
+    (omega arith, ap (row (now (a .block)) (a .header) (a .count) 0) e ∙ each-count _ _ (a .count))
 
 params-at-requires : tie.Need-params-at-requires Inv-loop μ-loop
 params-at-requires c κs = search needs
@@ -54,7 +55,7 @@ enum-known-refusal c = search needs
 unrolled : (c : tie.In-loop Inv-loop μ-loop)
     → let a = c .before .before .before .before .args in
     row (now (a .block)) (a .header) (a .count) (c .before .loop .i) (suc (a .count - (c .before .loop .i + 1)))
-    ≡ row (now (a .block)) (a .header) (a .count) 0 (a .count)
+    ≡ counting (textureRow (a .header) (a .count) (now (a .block))) (now (a .block))
 unrolled c =
     let a = c .before .before .before .before .args in
     let e : suc (a .count - (c .before .loop .i + 1)) ≡ a .count - c .before .loop .i = omega arith in

@@ -1,13 +1,9 @@
 -- `nitro::tex::take_data` meets its contract: the second data is taken once the first is there. Assumes nothing.
-use Prim.Native.Nat.{_+_, _≤_}
-use mathlib.Core.Path.{ap, sym, _∙_}
+use mathlib.Core.Path.{_∙_}
 use native.Mathlib.Omega.{arith}
-use lib.ListN.{length}
 use denote.Ref.{now}
 use borrow.Author.Needs.{needs}
-use Rattle.nds.specs.Formats.{dataLength}
 use Rattle.nds.proofs.Sizes.{data-length-lt}
-use Rattle.nitro.specs.Tex.{dataAt}
 use Rattle.nitro.proofs.Runs.{take-within, refused}
 use Rattle.nitro.proofs.Readings.{data-follows, first-taken}
 use Rattle.nitro.proofs.tex.take_data.Statement.{statement}

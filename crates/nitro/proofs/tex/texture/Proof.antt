@@ -1,5 +1,5 @@
 -- `nitro::tex::texture` meets its contract: the layout that was found says where texture n stands. Assumes nothing.
-use mathlib.Core.Path.{sym, ap, _∙_}
+use mathlib.Core.Path.{ap, _∙_}
 use native.Mathlib.Omega.{arith}
 use denote.Ref.{now}
 use borrow.Author.Needs.{needs}
