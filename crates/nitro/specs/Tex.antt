@@ -13,7 +13,7 @@ use Rattle.nitro.specs.InfoBlock.{NameList, nameList, entryName, entryNu
 use Rattle.nitro.specs.declared.errors.Kind.the-variants as kind
 use Rattle.nitro.specs.declared.tex.Header.{Header}
 
--- What a finished reading holds. Second data is a block-compressed texture's.
+-- What a finished reading holds: the "names, words, data, palettes" of the demands. Second data is a block-compressed texture's.
 pub record Data : Type 0 where
   pub data1 : List ℕ
   pub data2 : List ℕ

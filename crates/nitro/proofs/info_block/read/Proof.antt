@@ -26,7 +26,7 @@ add-view-u8 c = search needs
 
 -- the count is there
 there : (c : tie.After-enum-told) → let a = c .before .before .before .before .args in a .pos + 2 ≤ length (now (a .block))
-there c = take-within _ _ _ (rw (c .enum-told .given .1) at (c .before .before .take .ensures))
+there c = omega (arith, take-within _ _ _ (rw (c .enum-told .given .1) at (c .before .before .take .ensures)))
 
 view-u8-requires : tie.Need-view-u8-requires
 view-u8-requires c κs = omega (arith, there c)
