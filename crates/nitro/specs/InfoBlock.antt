@@ -4,8 +4,9 @@ use mathlib.Core.List.{List}
 use lib.ListN.{take, drop}
 use lib.Dec.{eqb}
 use Rattle.util.specs.Number.{numberAt}
+use Rattle.util.specs.Outcome.{Outcome, result}
 use Rattle.nitro.specs.Refusal.{badDummy, badSize}
-use Rattle.nitro.specs.Script.{Script, done, bytesAt, expect, _>>=_, _>>_}
+use Rattle.nitro.specs.Script.{Script, run, outcomeOf, done, bytesAt, expect, _>>=_, _>>_}
 use Rattle.nitro.specs.declared.errors.Kind.{Kind}
 use Rattle.nitro.specs.declared.errors.Kind.the-variants.{Texture, Palette}
 
@@ -51,6 +52,10 @@ unfoldable pub nameList : (kind : Kind) (pos : ℕ) → Script NameList
 nameList kind pos = do
   head ← bytesAt pos 2
   wholeList kind pos (numberAt 1 1 head)
+
+-- What reading a list answers: how many entries it has.
+abbrev pub listCount : Script NameList → (block : List ℕ) → Outcome ℕ
+listCount s block = outcomeOf (run s block) λ list. result (list .count)
 
 -- Entry i of a list: its name, and the number of the first `size` bytes of its datum.
 abbrev pub entryName : (kind : Kind) → NameList → (i : ℕ) → List ℕ

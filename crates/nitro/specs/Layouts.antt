@@ -8,7 +8,7 @@ use lib.Dec.{ltb}
 use Rattle.util.specs.Outcome.{Outcome, result, refusal}
 use Rattle.nitro.specs.Refusal.{absentNumber, refusalOutcome}
 use Rattle.nitro.specs.Script.{Script, Answer, run, outcomeOf, each}
-use Rattle.nitro.specs.InfoBlock.{NameList, listAt}
+use Rattle.nitro.specs.InfoBlock.{listAt}
 use Rattle.nitro.specs.Tex.{Texture, Contents, headerOf, readTexture}
 use Rattle.nitro.specs.declared.errors.Kind.{Kind}
 use Rattle.nitro.specs.declared.errors.Kind.the-variants as kind
@@ -26,9 +26,6 @@ passing s block = outcomeOf (run s block) λ _. result tt
 -- How many things it came to.
 abbrev pub counting : {A : Type 0} → Script (List A) → (block : List ℕ) → Outcome ℕ
 counting s block = outcomeOf (run s block) λ found. result (length found)
-
-abbrev pub countingList : Script NameList → (block : List ℕ) → Outcome ℕ
-countingList s block = outcomeOf (run s block) λ list. result (list .count)
 
 -- The textures of a list of c entries that stands in the block.
 abbrev pub textureRow : Header → (c : ℕ) (block : List ℕ) → Script (List Texture)

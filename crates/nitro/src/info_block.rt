@@ -15,7 +15,7 @@ ghost use lib.ListN.{length};
 ghost use Rattle.nitro.specs.Refusal.{statusOutcome, countedOutcome};
 ghost use Rattle.nitro.specs.Script.{bytesAt};
 ghost use Rattle.nitro.specs.InfoBlock as InfoBlock;
-ghost use Rattle.nitro.specs.Layouts.{passing, countingList};
+ghost use Rattle.nitro.specs.Layouts.{passing};
 
 // Whether block holds n bytes at pos.
 pub(crate) fn take(block: &[u8], pos: usize, n: usize) -> Status
@@ -41,7 +41,7 @@ pub(crate) fn datum_size(kind: Kind) -> usize
 // Reads the list of c entries at pos whole, and checks it.
 fn read_whole(block: &[u8], kind: Kind, pos: usize, c: usize) -> Counted
     requires { ⌜ (pos < 2 ^ 32) × (c < 2 ^ 8) ⌝ }
-    ensures { λ r. ⌜ countedOutcome r ≡ countingList (InfoBlock.wholeList kind pos c) (now (block .entry)) ⌝ }
+    ensures { λ r. ⌜ countedOutcome r ≡ InfoBlock.listCount (InfoBlock.wholeList kind pos c) (now (block .entry)) ⌝ }
 {
     let size = datum_size(kind);
     match take(block, pos, 16 + 4 * c + size * c + 16 * c) {
@@ -62,7 +62,7 @@ fn read_whole(block: &[u8], kind: Kind, pos: usize, c: usize) -> Counted
 
 // Reads the list at pos: its count, then the whole list, then its dummy and its datum size. Answers with the count.
 pub fn read(block: &[u8], kind: Kind, pos: u32) -> Counted
-    ensures { λ r. ⌜ countedOutcome r ≡ countingList (InfoBlock.nameList kind pos) (now (block .entry)) ⌝ }
+    ensures { λ r. ⌜ countedOutcome r ≡ InfoBlock.listCount (InfoBlock.nameList kind pos) (now (block .entry)) ⌝ }
 {
     let pos = pos as usize;
     match take(block, pos, 2) {

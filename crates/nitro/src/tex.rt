@@ -21,28 +21,28 @@ ghost use lib.ListN.{length, take as firstBytes};
 ghost use Rattle.util.specs.Outcome.{result};
 ghost use Rattle.nitro.specs.Refusal.{statusOutcome, countedOutcome};
 ghost use Rattle.nitro.specs.Script.{run, outcomeOf};
-ghost use Rattle.nitro.specs.InfoBlock.{listAt, listLength, entryName, entryNumber};
+ghost use Rattle.nitro.specs.InfoBlock.{listAt, listLength, entryNumber};
 ghost use Rattle.nitro.specs.Tex as Tex;
 ghost use Rattle.nitro.specs.Calls as Calls;
 ghost use Rattle.nitro.specs.Layouts as Layouts;
 ghost use Rattle.nitro.specs.declared.errors.Kind.the-variants as kinds;
 
-pub struct Header {
-    pub texture_off: u16,
-    pub tex_block_off: u32,
-    pub compressed1_block_off: u32,
-    pub compressed2_block_off: u32,
+struct Header {
+    texture_off: u16,
+    tex_block_off: u32,
+    compressed1_block_off: u32,
+    compressed2_block_off: u32,
     // The palette block's length in units of 8 bytes.
-    pub pal_block_len_shr_3: u16,
-    pub palette_off: u32,
-    pub pal_block_off: u32,
+    pal_block_len_shr_3: u16,
+    palette_off: u32,
+    pal_block_off: u32,
 }
 
 // Where a block's lists and data are, and how long the lists are.
-pub struct Layout {
-    pub header: Header,
-    pub textures: usize,
-    pub palettes: usize,
+struct Layout {
+    header: Header,
+    textures: usize,
+    palettes: usize,
 }
 
 enum Headed {
@@ -87,6 +87,7 @@ pub struct PaletteAnswer {
     pub palette: PaletteRecord,
 }
 
+// Whether the block begins with TEX0.
 fn has_stamp(block: &[u8]) -> bool
     requires { ⌜ 60 ≤ length (now block) ⌝ }
     ensures { λ r. ⌜ r ≡ Tex.hasStamp (firstBytes 60 (now (block .entry))) ⌝ }
@@ -103,6 +104,7 @@ fn has_stamp(block: &[u8]) -> bool
     block[3] == b'0'
 }
 
+// The header's fields.
 fn header_of(block: &[u8]) -> Header
     requires { ⌜ 60 ≤ length (now block) ⌝ }
     ensures { λ r. ⌜ r ≡ Tex.headerOf (firstBytes 60 (now (block .entry))) ⌝ }
@@ -134,7 +136,7 @@ fn read_header(block: &[u8]) -> Headed
     }
 }
 
-// In bytes.
+// The palette block's length in bytes.
 fn pal_block_len(header: Header) -> usize
     ensures { λ r. ⌜ r ≡ 8 * header .«pal_block_len_shr_3» ⌝ }
     ensures { λ r. ⌜ r < 2 ^ 19 ⌝ }
@@ -267,6 +269,7 @@ fn lay_out(block: &[u8]) -> Laid
     }
 }
 
+// The length of the list of the kind.
 fn count_of(kind: Kind, layout: Layout) -> usize
     ensures { λ r. ⌜ r ≡ Layouts.countOf kind layout ⌝ }
 {
@@ -292,6 +295,7 @@ fn find(block: &[u8], kind: Kind, n: usize) -> Laid
     }
 }
 
+// The record of a texture by its name and its word.
 fn texture_record(name: Name, params: TextureParams) -> TextureRecord
     ensures { λ r. ⌜ r ≡ Calls.textureRecord (name .0) (params .0) ⌝ }
 {
