@@ -12,6 +12,7 @@ use lib.Dec.{leb}
 use borrow.Author.Tests.{le-leb, lt-leb, leb-true, leb-false, lt-ltb, le-ltb}
 use Rattle.util.proofs.Parts.{part-of-prefix}
 use Rattle.nitro.specs.Script.{Script, done, refuse, get, short, run, ends, records}
+use Rattle.nitro.proofs.Runs.{run-in, run-out}
 
 -- Either the run on the first m bytes is the run on the whole, and no length is left to count; or it is short of some w past m. Then the
 -- whole is short of w where it has fewer bytes than w, and w is the last to count; else w is counted, and what is left is past w.
@@ -22,14 +23,6 @@ pub data Early {A : Type 0} (s : Script A) (b : List ℕ) (m : ℕ) : Type 0 whe
       → (w ≤ length b → records m (ends s b) ≡ suc (records w (ends s b))) → Early s b m
 
 module _ {A : Type 0} (p n : ℕ) (next : List ℕ → Script A) (b : List ℕ) where
-  run-in : p + n ≤ length b → run (get p n next) b ≡ run (next (take n (drop p b))) b
-  unfolding run
-  run-in h = rw (le-leb _ _ h)
-
-  run-out : length b < p + n → run (get p n next) b ≡ short (p + n)
-  unfolding run
-  run-out h = rw (lt-leb _ _ h)
-
   ends-in : p + n ≤ length b → ends (get p n next) b ≡ (p + n) ∷ ends (next (take n (drop p b))) b
   unfolding ends
   ends-in h = rw (le-leb _ _ h)

@@ -52,15 +52,25 @@ module _ {A B : Type 0} (s : Script A) (f : A → Script B) (b : List ℕ) where
       go (fault w) q = let z : _≡_ {A = ℕ} 0 1 = cc (rw q at (sym (run-bind f b s) ∙ e)) in absurd (omega arith)
       go (whole a) q = record { middle = a; first = q; second = rw q at (sym (run-bind f b s) ∙ e) }
 
+-- a take, and what comes next
+module _ {A : Type 0} (p n : ℕ) (next : List ℕ → Script A) (b : List ℕ) where
+  pub run-in : p + n ≤ length b → run (get p n next) b ≡ run (next (take n (drop p b))) b
+  unfolding run
+  run-in h = rw (le-leb _ _ h)
+
+  pub run-out : length b < p + n → run (get p n next) b ≡ short (p + n)
+  unfolding run
+  run-out h = rw (lt-leb _ _ h)
+
 -- n bytes at p
 module _ (p n : ℕ) (b : List ℕ) where
   pub bytes-in : p + n ≤ length b → run (bytesAt p n) b ≡ whole (take n (drop p b))
   unfolding run bytesAt
-  bytes-in h = rw (le-leb (p + n) (length b) h)
+  bytes-in h = run-in p n done b h
 
   pub bytes-out : length b < p + n → run (bytesAt p n) b ≡ short (p + n)
-  unfolding run bytesAt
-  bytes-out h = rw (lt-leb (p + n) (length b) h)
+  unfolding bytesAt
+  bytes-out h = run-out p n done b h
 
   pub record Bytes (bytes : List ℕ) : Type 0 where
     pub within : p + n ≤ length b
