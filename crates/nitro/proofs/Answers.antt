@@ -8,22 +8,25 @@ use native.Mathlib.Omega.{arith}
 use lib.ListN.{length, getD, take}
 use lib.Dec.{ltb}
 use borrow.Author.Tests.{ltb-true, ltb-false, lt-ltb, le-ltb}
-use Rattle.util.specs.Outcome.{Outcome, result, refusal}
+use Rattle.util.specs.Outcome.{Outcome, result, refusal, _>>=_}
 use Rattle.nitro.specs.Refusal.{absentNumber, refusalOutcome}
 use Rattle.nitro.specs.Script.{Answer, short, fault, whole, run, outcomeOf}
 use Rattle.nitro.specs.InfoBlock.{listAt, listLength}
 use Rattle.nitro.specs.Tex as Tex
 use Rattle.nitro.specs.Tex.{Contents, headerOf, readTex}
-use Rattle.nitro.specs.Calls.{Answers, entry, textureEntry, paletteEntry, valueOr, readingOf}
-use Rattle.nitro.specs.Layouts.{countOf, layoutOf, layoutWith}
+use Rattle.nitro.specs.Calls.{Answers, entry, textureEntry, paletteEntry, valueOr, readingOf, chosenOf, sourcesOf, sourcesAt}
+use Rattle.nitro.specs.Layouts.{countOf, layoutOf, layoutWith, hasChoice, chosenAt, placesAt}
 use Rattle.nitro.specs.declared.errors.Kind.{Kind}
 use Rattle.nitro.specs.declared.errors.Kind.the-variants as kinds
 use Rattle.nitro.specs.declared.errors.Refusal.{Refusal}
-use Rattle.nitro.specs.declared.errors.Refusal.the-variants.{Short, Stamp, Dummy, DatumSize, Number, Output}
+use Rattle.nitro.specs.declared.errors.Refusal.the-variants.{Short, Stamp, Dummy, DatumSize, Number, NoPalette, NoTexels, Output, ShortData}
 use Rattle.nitro.specs.declared.errors.Status.the-variants.{Done, Refused}
 use Rattle.nitro.specs.declared.tex.Layout.{Layout}
+use Rattle.nitro.specs.declared.tex.PaletteChoice.{PaletteChoice}
+use Rattle.nitro.specs.declared.tex.PaletteChoice.the-variants as choices
+use Rattle.nitro.specs.declared.tex.PaletteOff.the-variants as offs
 use Rattle.nitro.proofs.Runs.{whole-outcome, refusal-not, refusal-any}
-use Rattle.nitro.proofs.Readings.{TextureAt, finished, textures-listed, palettes-listed}
+use Rattle.nitro.proofs.Readings.{TextureAt, finished, textures-listed, palettes-listed, pal-block-whole}
 
 -- entry n of a list, and none
 module _ {A B : Type 0} (k : Kind) (f : A → B) where
@@ -46,7 +49,10 @@ value-refused blank Stamp = refl
 value-refused blank (Dummy k) = refl
 value-refused blank (DatumSize k) = refl
 value-refused blank (Number k) = refl
+value-refused blank NoPalette = refl
+value-refused blank NoTexels = refl
 value-refused blank Output = refl
+value-refused blank ShortData = refl
 
 -- a status with its record beside it
 module _ {A : Type 0} (blank : A) {answer : Outcome A} {beside : A} where
@@ -100,6 +106,13 @@ module _ {A B : Type 0} (k : Kind) (n : ℕ) (b : List ℕ) (list : Contents →
       go true q = absurd (refusal-not r (rw q at e))
       go false q = refusal-any r (rw q at e) ∙ sym (entry-out k f (list c) n (rw (counts c) at (ltb-false n (countOf k (layoutOf b c)) q)))
 
+-- an entry that is asked for is there, so these are never answered
+abbrev blankTexture : Tex.Texture
+blankTexture = record { name = []; word = 0; parts = record { data1 = []; data2 = [] } }
+
+abbrev blankPalette : Tex.Palette
+blankPalette = record { name = []; off = 0 }
+
 -- texture n: where it stands, by the layout that the code has, and that it is what the calls answer with
 pub record TextureFound (n : ℕ) (b : List ℕ) (l : Layout) : Type 1 where
   pub texture : Tex.Texture
@@ -113,14 +126,13 @@ unfolding textureEntry
 texture-found n b e =
     let o = found kinds.Texture n b (run readTex b) e in
     let listed = textures-listed (headerOf (take 60 b)) b (finished b (o .is) .textures) in
-    let none : Tex.Texture = record { name = []; word = 0; parts = record { data1 = []; data2 = [] } } in
     subst (TextureFound n b) (sym (o .laid))
     (record {
-      texture = getD (o .contents .textures) n none;
+      texture = getD (o .contents .textures) n blankTexture;
       within = listed .within;
       below = o .below;
-      at = listed .at n none (o .below);
-      entry = λ f. sym (entry-in kinds.Texture f (o .contents .textures) n none (o .below)) ∙ whole-outcome _ (o .is);
+      at = listed .at n blankTexture (o .below);
+      entry = λ f. sym (entry-in kinds.Texture f (o .contents .textures) n blankTexture (o .below)) ∙ whole-outcome _ (o .is);
     })
 
 pub no-texture : {B : Type 0} (n : ℕ) (b : List ℕ) (f : Tex.Texture → B) (r : Refusal)
@@ -141,17 +153,82 @@ unfolding paletteEntry
 palette-found n b e =
     let o = found kinds.Palette n b (run readTex b) e in
     let listed = palettes-listed (headerOf (take 60 b)) b (finished b (o .is) .palettes) in
-    let none : Tex.Palette = record { name = []; off = 0 } in
     subst (PaletteFound n b) (sym (o .laid))
     (record {
-      palette = getD (o .contents .palettes) n none;
+      palette = getD (o .contents .palettes) n blankPalette;
       within = listed .within;
       below = o .below;
-      at = listed .at n none (o .below);
-      entry = λ f. sym (entry-in kinds.Palette f (o .contents .palettes) n none (o .below)) ∙ whole-outcome _ (o .is);
+      at = listed .at n blankPalette (o .below);
+      entry = λ f. sym (entry-in kinds.Palette f (o .contents .palettes) n blankPalette (o .below)) ∙ whole-outcome _ (o .is);
     })
 
 pub no-palette : {B : Type 0} (n : ℕ) (b : List ℕ) (f : Tex.Palette → B) (r : Refusal)
     → refusalOutcome r ≡ layoutWith kinds.Palette n b (run readTex b) → refusalOutcome r ≡ paletteEntry f n (run readTex b)
 unfolding paletteEntry
 no-palette n b f r e = no-entry kinds.Palette n b (λ c. c .palettes) f (λ c. refl) r (run readTex b) e
+
+-- the chosen palette of a finished reading, by the layout
+module _ (b : List ℕ) {c : Contents} (is : run readTex b ≡ whole c) where
+  chosen-there : (choice : PaletteChoice) → hasChoice (layoutOf b c) choice ≡ true
+      → chosenOf choice (c .palettes) ≡ result (chosenAt b (layoutOf b c) choice)
+  unfolding chosenOf
+  chosen-there choices.None e = refl
+  chosen-there (choices.Number k) e =
+      let below = ltb-true k (length (c .palettes)) e in
+      entry-in kinds.Palette (λ p. offs.At (p .off)) (c .palettes) k blankPalette below
+      ∙ ap (λ (p : Tex.Palette). result (offs.At (p .off)))
+      (palettes-listed (headerOf (take 60 b)) b (finished b is .palettes) .at k blankPalette below)
+
+  chosen-absent : (choice : PaletteChoice) → hasChoice (layoutOf b c) choice ≡ false
+      → chosenOf choice (c .palettes) ≡ refusal (absentNumber kinds.Palette) 0
+  unfolding chosenOf
+  chosen-absent choices.None e = let z : _≡_ {A = ℕ} 0 1 = cc in absurd (omega arith)
+  chosen-absent (choices.Number k) e = entry-out kinds.Palette _ (c .palettes) k (ltb-false k (length (c .palettes)) e)
+
+-- and what a picture of texture n is made from
+module _ (n : ℕ) (choice : PaletteChoice) (b : List ℕ) {c : Contents} (is : run readTex b ≡ whole c) (below : n < length (c .textures)) where
+  texture-in : entry kinds.Texture (λ (t : Tex.Texture). t) (c .textures) n ≡ result (getD (c .textures) n blankTexture)
+  texture-in = entry-in kinds.Texture (λ (t : Tex.Texture). t) (c .textures) n blankTexture below
+
+  sources-there : hasChoice (layoutOf b c) choice ≡ true
+      → result (sourcesAt b (placesAt b (layoutOf b c) n (chosenAt b (layoutOf b c) choice))) ≡ sourcesOf n choice (run readTex b)
+  unfolding sourcesOf outcomeOf placesAt _>>=_
+  sources-there e =
+      let t = textures-listed (headerOf (take 60 b)) b (finished b is .textures) .at n blankTexture below in
+      let p = pal-block-whole (headerOf (take 60 b)) b (finished b is .pal-block) in
+      rw (is, texture-in, chosen-there b is choice e, ← t .parts .first, ← t .parts .second, ← t .word, ← p)
+
+  sources-absent : hasChoice (layoutOf b c) choice ≡ false → refusal (absentNumber kinds.Palette) 0 ≡ sourcesOf n choice (run readTex b)
+  unfolding sourcesOf outcomeOf _>>=_
+  sources-absent e = rw (is, texture-in, chosen-absent b is choice e)
+
+-- the same by the layout that the code has
+pub record SourcesFound (n : ℕ) (choice : PaletteChoice) (b : List ℕ) (l : Layout) : Type 0 where
+  pub within : l .header .«palette_off» + listLength kinds.Palette (l .palettes) ≤ length b
+  pub there : hasChoice l choice ≡ true → result (sourcesAt b (placesAt b l n (chosenAt b l choice))) ≡ sourcesOf n choice (run readTex b)
+  pub absent : hasChoice l choice ≡ false → refusal (absentNumber kinds.Palette) 0 ≡ sourcesOf n choice (run readTex b)
+
+pub sources-found : (n : ℕ) (choice : PaletteChoice) (b : List ℕ) {l : Layout}
+    → result l ≡ layoutWith kinds.Texture n b (run readTex b) → SourcesFound n choice b l
+sources-found n choice b e =
+    let o = found kinds.Texture n b (run readTex b) e in
+    subst (SourcesFound n choice b) (sym (o .laid))
+    (record {
+      within = palettes-listed (headerOf (take 60 b)) b (finished b (o .is) .palettes) .within;
+      there = sources-there n choice b (o .is) (o .below);
+      absent = sources-absent n choice b (o .is) (o .below);
+    })
+
+-- a refusal is passed on, whatever comes next
+pub passed-on : {A B : Type 0} (r : Refusal) (o : Outcome A) (f : A → Outcome B) → refusalOutcome r ≡ o → refusalOutcome r ≡ (o >>= f)
+unfolding _>>=_
+passed-on r (result a) f e = absurd (refusal-not r e)
+passed-on r (refusal k v) f e = refusal-any r e
+
+pub no-sources : (n : ℕ) (choice : PaletteChoice) (b : List ℕ) (r : Refusal) (a : Answer Contents)
+    → refusalOutcome r ≡ layoutWith kinds.Texture n b a → refusalOutcome r ≡ sourcesOf n choice a
+unfolding sourcesOf layoutWith outcomeOf
+no-sources n choice b r (short w) e = refusal-any r e
+no-sources n choice b r (fault w) e = refusal-any r e
+no-sources n choice b r (whole c) e =
+    passed-on r _ _ (no-entry kinds.Texture n b (λ c. c .textures) (λ t. t) (λ c. refl) r (whole c) e)

@@ -1,12 +1,14 @@
 -- The laws of an output that is written piece after piece, and of the two cases of `Writes`. Assumes nothing.
 use Prim.Native.Nat.{ℕ, _+_, _≤_, _<_}
 use mathlib.Core.Path.{_≡_, refl, _∙_}
+use mathlib.Core.Bool.{Bool, true, false}
 use mathlib.Core.List.{List, [], _∷_, _++_, append-nil}
 use native.Mathlib.Omega.{arith}
 use lib.ListN.{length, drop, set, length-append, length-drop, drop-of-length-le}
 use lib.Seq.{take-append-seam, drop-append-add, drop-drop, sets, sets-eq}
+use lib.Dec.{leb}
 use borrow.Author.Tests.{le-leb, lt-leb}
-use Rattle.util.specs.Outcome.{result, refusal}
+use Rattle.util.specs.Outcome.{Outcome, result, refusal}
 use Rattle.nitro.specs.Output.{writeOutcome, writeOutput, Writes}
 
 -- an output, `entry` at first and `now` after the text was written to its first `end` bytes
@@ -40,12 +42,27 @@ module _ {text entry : List ℕ} {end : ℕ} {now : List ℕ} (w : Wrote text en
   pub wrote-all : length entry ≤ end → now ≡ text
   wrote-all h = w .holds ∙ rw (drop-of-length-le entry {i = length text} (omega arith), append-nil)
 
-  pub writes-fits : Writes text entry (result end) now
+  pub writes-fits : Writes (result text) entry (result end) now
   unfolding writeOutcome writeOutput
   writes-fits =
       let e = le-leb _ _ (w .fits) in
       record { outcome = rw (e, w .ends); output = rw e (w .holds) }
 
-pub writes-short : (text entry : List ℕ) → length entry < length text → Writes text entry (refusal 11 0) entry
+pub writes-short : (text entry : List ℕ) → length entry < length text → Writes (result text) entry (refusal 11 0) entry
 unfolding writeOutcome writeOutput
 writes-short text entry h = let e = lt-leb _ _ h in record { outcome = rw e; output = rw e }
+
+pub writes-refused : (entry : List ℕ) (number returned : ℕ) → Writes (refusal number returned) entry (refusal number returned) entry
+unfolding writeOutcome writeOutput
+writes-refused entry number returned = record { outcome = refl; output = refl }
+
+-- a call that answers with a refusal leaves every byte of the output as it was
+pub refused-keeps : {made : Outcome (List ℕ)} {entry exit : List ℕ} {number returned : ℕ}
+    → Writes made entry (refusal number returned) exit → exit ≡ entry
+unfolding writeOutcome writeOutput
+refused-keeps {made = refusal n r} w = w .output
+refused-keeps {made = result bytes} {entry} {exit} w = go (leb (length bytes) (length entry)) refl
+  where
+    go : (t : Bool) → leb (length bytes) (length entry) ≡ t → exit ≡ entry
+    go true e = let z : _≡_ {A = ℕ} 0 1 = cc (rw e at (w .outcome)) in absurd (omega arith)
+    go false e = rw e at (w .output)

@@ -13,7 +13,7 @@ use Rattle.nitro.specs.Refusal.{Fault, faultNumber, refusalOutcome}
 use Rattle.nitro.specs.Script.{Script, done, refuse, get, Answer, short, fault, whole, run, outcomeOf, bytesAt, expect, eachFrom}
 use Rattle.nitro.specs.Script.{_>>=_, _>>_}
 use Rattle.nitro.specs.declared.errors.Refusal.{Refusal}
-use Rattle.nitro.specs.declared.errors.Refusal.the-variants.{Short, Stamp, Dummy, DatumSize, Number, Output}
+use Rattle.nitro.specs.declared.errors.Refusal.the-variants.{Short, Stamp, Dummy, DatumSize, Number, NoPalette, NoTexels, Output, ShortData}
 
 -- an answer, and then the next
 abbrev pub andThen : {A B : Type 0} → Answer A → (A → Answer B) → Answer B
@@ -230,7 +230,10 @@ refusal-not Stamp e = let z : _≡_ {A = ℕ} 0 1 = cc in omega arith
 refusal-not (Dummy k) e = let z : _≡_ {A = ℕ} 0 1 = cc in omega arith
 refusal-not (DatumSize k) e = let z : _≡_ {A = ℕ} 0 1 = cc in omega arith
 refusal-not (Number k) e = let z : _≡_ {A = ℕ} 0 1 = cc in omega arith
+refusal-not NoPalette e = let z : _≡_ {A = ℕ} 0 1 = cc in omega arith
+refusal-not NoTexels e = let z : _≡_ {A = ℕ} 0 1 = cc in omega arith
 refusal-not Output e = let z : _≡_ {A = ℕ} 0 1 = cc in omega arith
+refusal-not ShortData e = let z : _≡_ {A = ℕ} 0 1 = cc in omega arith
 
 pub refusal-any : {A B : Type 0} {k v : ℕ} (r : Refusal)
     → _≡_ {A = Outcome A} (refusalOutcome r) (refusal k v) → _≡_ {A = Outcome B} (refusalOutcome r) (refusal k v)
@@ -239,7 +242,10 @@ refusal-any Stamp e = cc
 refusal-any (Dummy k) e = cc
 refusal-any (DatumSize k) e = cc
 refusal-any (Number k) e = cc
+refusal-any NoPalette e = cc
+refusal-any NoTexels e = cc
 refusal-any Output e = cc
+refusal-any ShortData e = cc
 
 -- so a refusal of x is y's, whatever either makes of its end
 module _ {A B C D : Type 0} (x : Answer A) (y : Answer B) (follows : Follows x y) (g : A → C) (h : B → Outcome D) (r : Refusal) where

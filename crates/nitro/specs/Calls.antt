@@ -3,13 +3,14 @@ use Prim.Native.Nat.{ℕ, zero, suc}
 use mathlib.Core.Path.{_≡_}
 use mathlib.Core.List.{List, [], _∷_}
 use lib.ListN.{length, replicate}
-use Rattle.util.specs.Outcome.{Outcome, result, refusal}
+use Rattle.util.specs.Outcome.{Outcome, result, refusal, _>>=_}
+use Rattle.util.specs.Take.{takenPart}
 use Rattle.nds.specs.Params.{repeatS, mirrorS, repeatT, mirrorT}
 use Rattle.nds.specs.Formats.{alpha}
 use Rattle.nds.specs.Wrap.{wrapOf}
 use Rattle.nitro.specs.Refusal.{absentNumber, refusalOutcome}
 use Rattle.nitro.specs.Script.{Answer, outcomeOf}
-use Rattle.nitro.specs.Tex.{Texture, Palette, Contents}
+use Rattle.nitro.specs.Tex.{Data, Texture, Palette, Contents}
 use Rattle.nitro.specs.declared.errors.Kind.{Kind}
 use Rattle.nitro.specs.declared.errors.Kind.the-variants as kind
 use Rattle.nitro.specs.declared.errors.Status.{Status}
@@ -18,6 +19,14 @@ use Rattle.nitro.specs.declared.tex.Reading.{Reading}
 use Rattle.nitro.specs.declared.tex.Reading.the-variants as reading
 use Rattle.nitro.specs.declared.tex.TextureRecord.{TextureRecord}
 use Rattle.nitro.specs.declared.tex.PaletteRecord.{PaletteRecord}
+use Rattle.nitro.specs.declared.tex.PaletteChoice.{PaletteChoice}
+use Rattle.nitro.specs.declared.tex.PaletteChoice.the-variants as choice
+use Rattle.nitro.specs.declared.tex.PaletteOff.{PaletteOff}
+use Rattle.nitro.specs.declared.tex.PaletteOff.the-variants as off
+use Rattle.nitro.specs.declared.tex.Place.{Place}
+use Rattle.nitro.specs.declared.tex.Places.{Places}
+use Rattle.nitro.specs.declared.tex.Located.{Located}
+use Rattle.nitro.specs.declared.tex.Located.the-variants as located
 
 -- 01, "When a call is declined": "A reading gives both counts".
 pub record Counts : Type 0 where
@@ -101,3 +110,38 @@ data2Of n a = partOf (textureEntry (λ t. t .parts .data2) n a)
 
 unfoldable pub palBlockOf : Answer Contents → List ℕ
 palBlockOf a = partOf (outcomeOf a λ c. result (c .palBlock))
+
+-- What a picture is made from: the word and data of a texture, the offset of the palette chosen for it, if one was, and the palette block.
+pub record Sources : Type 0 where
+  pub word : ℕ
+  pub parts : Data
+  pub palette : PaletteOff
+  pub palBlock : List ℕ
+
+-- 01, "Rust idioms to redo": "`Option<&Palette>`: an enum with a number, the palette bytes beside it."
+unfoldable pub chosenOf : PaletteChoice → List Palette → Outcome PaletteOff
+chosenOf choice.None palettes = result off.None
+chosenOf (choice.Number k) palettes = entry kind.Palette (λ p. off.At (p .off)) palettes k
+
+-- "A picture from a block: reading, 7, 8 (also where the palette is unneeded), .."
+unfoldable pub sourcesOf : (n : ℕ) → PaletteChoice → Answer Contents → Outcome Sources
+sourcesOf n choice a = outcomeOf a λ c. do
+  texture ← entry kind.Texture (λ t. t) (c .textures) n
+  palette ← chosenOf choice (c .palettes)
+  result (record { word = texture .word; parts = texture .parts; palette = palette; palBlock = c .palBlock })
+
+-- The part of the block at a place, and all parts at a picture's places.
+abbrev pub partAt : (block : List ℕ) → Place → List ℕ
+partAt block place = takenPart (place .pos) (place .len) block
+
+abbrev pub sourcesAt : (block : List ℕ) → Places → Sources
+sourcesAt block places = record {
+  word = places .params .0;
+  parts = record { data1 = partAt block (places .data1); data2 = partAt block (places .data2) };
+  palette = places .palette;
+  palBlock = partAt block (places .«pal_block»);
+}
+
+abbrev pub locatedOutcome : (block : List ℕ) → Located → Outcome Sources
+locatedOutcome block (located.Found places) = result (sourcesAt block places)
+locatedOutcome block (located.Refused r) = refusalOutcome r

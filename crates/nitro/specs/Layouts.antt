@@ -1,15 +1,16 @@
 -- What the functions between the script and the calls hand on: that a step passed, a count, the header, and the layout, which is the
 -- header and both counts. No public call of `tex.rt` answers with these. Assumes nothing.
-use Prim.Native.Nat.{ℕ}
-use mathlib.Core.Bool.{cond}
+use Prim.Native.Nat.{ℕ, _*_}
+use mathlib.Core.Bool.{Bool, true, cond}
 use mathlib.Core.List.{List}
 use lib.ListN.{length, take}
 use lib.Dec.{ltb}
 use Rattle.util.specs.Outcome.{Outcome, result, refusal}
+use Rattle.nds.specs.Formats.{dataLength, secondLength}
 use Rattle.nitro.specs.Refusal.{absentNumber, refusalOutcome}
 use Rattle.nitro.specs.Script.{Script, Answer, run, outcomeOf, each}
-use Rattle.nitro.specs.InfoBlock.{listAt}
-use Rattle.nitro.specs.Tex.{Texture, Contents, headerOf, readTexture}
+use Rattle.nitro.specs.InfoBlock.{listAt, entryNumber}
+use Rattle.nitro.specs.Tex.{Texture, Contents, headerOf, dataAt, secondAt, readTexture}
 use Rattle.nitro.specs.declared.errors.Kind.{Kind}
 use Rattle.nitro.specs.declared.errors.Kind.the-variants as kind
 use Rattle.nitro.specs.declared.tex.Header.{Header}
@@ -18,6 +19,11 @@ use Rattle.nitro.specs.declared.tex.Headed.{Headed}
 use Rattle.nitro.specs.declared.tex.Headed.the-variants as headed
 use Rattle.nitro.specs.declared.tex.Laid.{Laid}
 use Rattle.nitro.specs.declared.tex.Laid.the-variants as laid
+use Rattle.nitro.specs.declared.tex.PaletteChoice.{PaletteChoice}
+use Rattle.nitro.specs.declared.tex.PaletteChoice.the-variants as choices
+use Rattle.nitro.specs.declared.tex.PaletteOff.{PaletteOff}
+use Rattle.nitro.specs.declared.tex.PaletteOff.the-variants as offs
+use Rattle.nitro.specs.declared.tex.Places.{Places}
 
 -- That a script reached its end.
 abbrev pub passing : {A : Type 0} → Script A → (block : List ℕ) → Outcome (Unit {0})
@@ -58,3 +64,26 @@ unfoldable pub layoutWith : Kind → (n : ℕ) → (block : List ℕ) → Answer
 layoutWith k n block a =
     outcomeOf a λ c.
     cond (ltb n (countOf k (layoutOf block c))) (result (layoutOf block c)) (refusal (absentNumber k) 0)
+
+-- The palette that is chosen: whether the block has it, and its offset, by the layout.
+abbrev pub hasChoice : Layout → PaletteChoice → Bool
+hasChoice l choices.None = true
+hasChoice l (choices.Number k) = ltb k (l .palettes)
+
+abbrev pub chosenAt : (block : List ℕ) → Layout → PaletteChoice → PaletteOff
+chosenAt block l choices.None = offs.None
+chosenAt block l (choices.Number k) =
+    offs.At (8 * entryNumber kind.Palette 2 (listAt kind.Palette (l .header .«palette_off») (l .palettes) block) k)
+
+-- The places of the data of a texture with word w, and of the palette block.
+abbrev pub placesOf : Layout → (w : ℕ) → PaletteOff → Places
+placesOf l w palette = record {
+  params = record { 0 = w };
+  data1 = record { pos = dataAt (l .header) w; len = dataLength w };
+  data2 = record { pos = secondAt (l .header) w; len = secondLength w };
+  palette = palette;
+  «pal_block» = record { pos = l .header .«pal_block_off»; len = 8 * l .header .«pal_block_len_shr_3» };
+}
+
+unfoldable pub placesAt : (block : List ℕ) → Layout → (n : ℕ) → PaletteOff → Places
+placesAt block l n palette = placesOf l (entryNumber kind.Texture 4 (listAt kind.Texture (l .header .«texture_off») (l .textures) block) n) palette

@@ -7,15 +7,18 @@ use lib.ListN.{length, drop}
 use lib.Dec.{leb}
 use Rattle.util.specs.Outcome.{Outcome, result, refusal}
 
--- 01, "When a call is declined": "writes its text's bytes, returns their number and keeps the output beyond them", and "output shorter
--- than the result", 11, where the output is left as it was.
-unfoldable pub writeOutcome : (text output : List ℕ) → Outcome ℕ
-writeOutcome text output = cond (leb (length text) (length output)) (result (length text)) (refusal 11 0)
+-- What a call makes, if it is not declined already, goes to the output. 01, "When a call is declined": "writes its text's bytes, returns
+-- their number and keeps the output beyond them", and "output shorter than the result", 11. Where the call is declined the output is
+-- "left as it was".
+unfoldable pub writeOutcome : (made : Outcome (List ℕ)) (output : List ℕ) → Outcome ℕ
+writeOutcome (result bytes) output = cond (leb (length bytes) (length output)) (result (length bytes)) (refusal 11 0)
+writeOutcome (refusal number returned) output = refusal number returned
 
-unfoldable pub writeOutput : (text output : List ℕ) → List ℕ
-writeOutput text output = cond (leb (length text) (length output)) (text ++ drop (length text) output) output
+unfoldable pub writeOutput : (made : Outcome (List ℕ)) (output : List ℕ) → List ℕ
+writeOutput (result bytes) output = cond (leb (length bytes) (length output)) (bytes ++ drop (length bytes) output) output
+writeOutput (refusal number returned) output = output
 
--- A call that writes a text: what it answers, and the output that it leaves.
-pub record Writes (text entry : List ℕ) (answer : Outcome ℕ) (exit : List ℕ) : Type 0 where
-  pub outcome : answer ≡ writeOutcome text entry
-  pub output : exit ≡ writeOutput text entry
+-- A call that writes what it makes: what it answers, and the output that it leaves.
+pub record Writes (made : Outcome (List ℕ)) (entry : List ℕ) (answer : Outcome ℕ) (exit : List ℕ) : Type 0 where
+  pub outcome : answer ≡ writeOutcome made entry
+  pub output : exit ≡ writeOutput made entry

@@ -4,7 +4,7 @@ use Rattle.util.specs.Outcome.{Outcome, result, refusal}
 use Rattle.nitro.specs.declared.errors.Kind.{Kind}
 use Rattle.nitro.specs.declared.errors.Kind.the-variants.{Texture, Palette}
 use Rattle.nitro.specs.declared.errors.Refusal.{Refusal}
-use Rattle.nitro.specs.declared.errors.Refusal.the-variants.{Short, Stamp, Dummy, DatumSize, Number, Output}
+use Rattle.nitro.specs.declared.errors.Refusal.the-variants.{Short, Stamp, Dummy, DatumSize, Number, NoPalette, NoTexels, Output, ShortData}
 use Rattle.nitro.specs.declared.errors.Status.{Status}
 use Rattle.nitro.specs.declared.errors.Status.the-variants as status
 use Rattle.nitro.specs.declared.errors.Counted.{Counted}
@@ -30,15 +30,19 @@ abbrev pub absentNumber : Kind → ℕ
 absentNumber Texture = 7
 absentNumber Palette = 8
 
--- 01's number and value of each case of the code's `Refusal`. "take is short", 1, returned the want; "output shorter than the result",
--- 11; every other row returns 0.
+-- 01's number and value of each case of the code's `Refusal`. "take is short", 1, returned the want; "formats 1 to 6, no palette
+-- chosen", 9; "format 0", 10; "output shorter than the result", 11; "data (second too, for 5) shorter than the word says", 12. Every row
+-- but the first returns 0.
 abbrev pub refusalOutcome : {A : Type 0} → Refusal → Outcome A
 refusalOutcome (Short needed) = refusal 1 needed
 refusalOutcome Stamp = refusal (faultNumber badStamp) 0
 refusalOutcome (Dummy kind) = refusal (faultNumber (badDummy kind)) 0
 refusalOutcome (DatumSize kind) = refusal (faultNumber (badSize kind)) 0
 refusalOutcome (Number kind) = refusal (absentNumber kind) 0
+refusalOutcome NoPalette = refusal 9 0
+refusalOutcome NoTexels = refusal 10 0
 refusalOutcome Output = refusal 11 0
+refusalOutcome ShortData = refusal 12 0
 
 -- The code's answers that hold nothing, or a number, beside the refusal.
 abbrev pub statusOutcome : Status → Outcome (Unit {0})

@@ -17,8 +17,14 @@ pub enum Refusal {
     DatumSize(Kind),
     // A texture's or palette's number is not below the count.
     Number(Kind),
+    // The texture's format needs a palette, and none was chosen.
+    NoPalette,
+    // The texture has format 0, which has no texels.
+    NoTexels,
     // The output is shorter than what is to be written.
     Output,
+    // The texture's data are shorter than its word says.
+    ShortData,
 }
 
 pub enum Status {

@@ -6,6 +6,7 @@ ghost use mathlib.Core.List.{flatMap};
 ghost use Prim.Native.Nat.{_+_, _≤_};
 ghost use lib.ListN.{length, take, drop};
 ghost use lib.Seq.{sets};
+ghost use Rattle.util.specs.Outcome.{result};
 ghost use Rattle.nitro.specs.Name as Text;
 ghost use Rattle.nitro.specs.Output.{Writes};
 ghost use Rattle.nitro.specs.Refusal.{countedOutcome};
@@ -80,7 +81,7 @@ impl Name {
 
     // Writes the name as letters, digits and underscores, of which there is at least one.
     pub fn print_safe(self, out: &mut [u8]) -> Counted
-        ensures { λ r. ⌜ Writes (Text.safeText (self .0)) (now (out .entry)) (countedOutcome r) (now (out .exit)) ⌝ }
+        ensures { λ r. ⌜ Writes (result (Text.safeText (self .0))) (now (out .entry)) (countedOutcome r) (now (out .exit)) ⌝ }
     {
         let bytes = self.0;
         let n = self.trimmed_len();
@@ -119,7 +120,7 @@ impl Name {
 
     // Writes the name in UTF-8, each byte as the character of that number, with a period for each byte below 20 hex.
     pub fn display(self, out: &mut [u8]) -> Counted
-        ensures { λ r. ⌜ Writes (Text.displayText (self .0)) (now (out .entry)) (countedOutcome r) (now (out .exit)) ⌝ }
+        ensures { λ r. ⌜ Writes (result (Text.displayText (self .0))) (now (out .entry)) (countedOutcome r) (now (out .exit)) ⌝ }
     {
         let bytes = self.0;
         let n = self.trimmed_len();

@@ -16,6 +16,7 @@ use util::cur::part_at;
 use util::view::view_u16;
 use util::view::view_u32;
 ghost use mathlib.Core.Path.{_≡_};
+ghost use mathlib.Core.Bool.{true};
 ghost use Prim.Native.Nat.{_+_, _*_, _<_, _≤_, _^_};
 ghost use lib.ListN.{length, take as firstBytes};
 ghost use Rattle.util.specs.Outcome.{result};
@@ -85,6 +86,38 @@ pub struct TextureAnswer {
 pub struct PaletteAnswer {
     pub status: Status,
     pub palette: PaletteRecord,
+}
+
+// The palette that a picture is to have.
+pub enum PaletteChoice {
+    None,
+    Number(usize),
+}
+
+// The offset of the palette that a picture has, in bytes, from the palette block's start.
+pub enum PaletteOff {
+    None,
+    At(u32),
+}
+
+// A part of a block: len bytes at pos.
+pub struct Place {
+    pub pos: usize,
+    pub len: usize,
+}
+
+// What a picture is made from, and where in the block it is.
+pub struct Places {
+    pub params: TextureParams,
+    pub data1: Place,
+    pub data2: Place,
+    pub palette: PaletteOff,
+    pub pal_block: Place,
+}
+
+pub enum Located {
+    Found(Places),
+    Refused(Refusal),
 }
 
 // Whether the block begins with TEX0.
@@ -405,5 +438,71 @@ pub fn pal_block(block: &[u8]) -> &[u8]
             part_at(block, header.pal_block_off as usize, pal_block_len(header))
         }
         Laid::Refused(_) => &block[..0],
+    }
+}
+
+// Whether the layout's block has the palette that is chosen.
+fn has_choice(layout: Layout, choice: PaletteChoice) -> bool
+    ensures { λ r. ⌜ r ≡ Layouts.hasChoice layout choice ⌝ }
+{
+    match choice {
+        PaletteChoice::None => true,
+        PaletteChoice::Number(k) => k < layout.palettes,
+    }
+}
+
+// The offset of the palette that is chosen.
+fn chosen_off(block: &[u8], layout: Layout, choice: PaletteChoice) -> PaletteOff
+    requires { ⌜ (layout .header .«palette_off» + listLength kinds.Palette (layout .palettes) ≤ length (now block)) × (Layouts.hasChoice layout choice ≡ true) ⌝ }
+    ensures { λ r. ⌜ r ≡ Layouts.chosenAt (now (block .entry)) layout choice ⌝ }
+{
+    match choice {
+        PaletteChoice::None => PaletteOff::None,
+        PaletteChoice::Number(k) => {
+            let header = layout.header;
+            PaletteOff::At(off_at(block, header.palette_off as usize, layout.palettes, k))
+        }
+    }
+}
+
+// The places of a picture's texture, beside the palette's offset.
+fn places_of(block: &[u8], layout: Layout, n: usize, palette: PaletteOff) -> Places
+    requires { ⌜ (layout .header .«texture_off» + listLength kinds.Texture (layout .textures) ≤ length (now block)) × (n < layout .textures) ⌝ }
+    ensures { λ r. ⌜ r ≡ Layouts.placesAt (now (block .entry)) layout n palette ⌝ }
+{
+    let header = layout.header;
+    let params = params_at(block, header.texture_off as usize, layout.textures, n);
+    Places {
+        params,
+        data1: Place {
+            pos: data1_pos(header, params),
+            len: params.byte_len(),
+        },
+        data2: Place {
+            pos: data2_pos(header, params),
+            len: params.byte_len2(),
+        },
+        palette,
+        pal_block: Place {
+            pos: header.pal_block_off as usize,
+            len: pal_block_len(header),
+        },
+    }
+}
+
+// What a picture of texture n with the chosen palette is made from.
+pub fn locate(block: &[u8], n: usize, choice: PaletteChoice) -> Located
+    ensures { λ r. ⌜ Calls.locatedOutcome (now (block .entry)) r ≡ Calls.sourcesOf n choice (run Tex.readTex (now (block .entry))) ⌝ }
+{
+    match find(block, Kind::Texture, n) {
+        Laid::Refused(refusal) => Located::Refused(refusal),
+        Laid::Found(layout) => {
+            if has_choice(layout, choice) {
+                let palette = chosen_off(block, layout, choice);
+                Located::Found(places_of(block, layout, n, palette))
+            } else {
+                Located::Refused(Refusal::Number(Kind::Palette))
+            }
+        }
     }
 }
