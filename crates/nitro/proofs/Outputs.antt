@@ -9,7 +9,10 @@ use lib.Seq.{take-append-seam, drop-append-add, drop-drop, sets, sets-eq}
 use lib.Dec.{leb}
 use borrow.Author.Tests.{le-leb, lt-leb}
 use Rattle.util.specs.Outcome.{Outcome, result, refusal}
+use Rattle.nitro.specs.Refusal.{refusalOutcome}
 use Rattle.nitro.specs.Output.{writeOutcome, writeOutput, Writes}
+use Rattle.nitro.specs.declared.errors.Refusal.{Refusal}
+use Rattle.nitro.proofs.Runs.{refusal-not, refusal-any}
 
 -- an output, `entry` at first and `now` after the text was written to its first `end` bytes
 pub record Wrote (text entry : List ℕ) (end : ℕ) (now : List ℕ) : Type 0 where
@@ -52,9 +55,11 @@ pub writes-short : (text entry : List ℕ) → length entry < length text → Wr
 unfolding writeOutcome writeOutput
 writes-short text entry h = let e = lt-leb _ _ h in record { outcome = rw e; output = rw e }
 
-pub writes-refused : (entry : List ℕ) (number returned : ℕ) → Writes (refusal number returned) entry (refusal number returned) entry
+pub writes-refusal : (r : Refusal) (entry : List ℕ) {made : Outcome (List ℕ)} → refusalOutcome r ≡ made
+    → Writes made entry (refusalOutcome r) entry
 unfolding writeOutcome writeOutput
-writes-refused entry number returned = record { outcome = refl; output = refl }
+writes-refusal r entry {made = result bytes} e = absurd (refusal-not r e)
+writes-refusal r entry {made = refusal number returned} e = record { outcome = refusal-any r e; output = refl }
 
 -- a call that answers with a refusal leaves every byte of the output as it was
 pub refused-keeps : {made : Outcome (List ℕ)} {entry exit : List ℕ} {number returned : ℕ}

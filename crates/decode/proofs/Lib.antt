@@ -1,0 +1,5 @@
+pub mod Pictures
+pub mod Quads
+pub mod Rows
+pub mod Tables
+pub mod Texels

@@ -1,0 +1,68 @@
+-- The laws of a palette written out as a table of texels, and of the texels that are taken from it. Assumes nothing.
+use Prim.Native.Nat.{ℕ, _+_, _*_, _/_, _%_, _^_, _≤_, _<_}
+use mathlib.Core.Path.{_≡_, refl, sym, ap, _∙_}
+use mathlib.Core.Bool.{Bool, false}
+use mathlib.Core.List.{List}
+use native.Mathlib.Nat.{mod-lt}
+use native.Mathlib.Omega.{arith}
+use lib.ListN.{length, take, drop, getD}
+use lib.Bits.{bitAnd, and-mask}
+use lib.Pow.{pow-pos}
+use Rattle.decode.specs.Texels.{pixel, paletteColor, texelBits, alpha3, format1, indexed, formats2to4, format6}
+use Rattle.decode.specs.Pictures.{painted}
+use Rattle.decode.specs.Steps.{withAlpha}
+use Rattle.decode.proofs.Quads.{Fours, painted-at, painted-room}
+use Rattle.decode.proofs.Texels.{indexed-four}
+
+pub texel-lt : (bits : ℕ) (texels : List ℕ) (n : ℕ) → texelBits bits texels n < 2 ^ bits
+unfolding texelBits
+texel-lt bits texels n = mod-lt _ (pow-pos bits)
+
+-- a table of the first `count` colours
+pub record Table (clear0 : Bool) (pal : List ℕ) (p count : ℕ) (table : List ℕ) : Type 0 where
+  pub room : 4 * count ≤ length table
+  pub at : (k : ℕ) → k < count → take 4 (drop (4 * k) table) ≡ indexed clear0 pal p k
+
+pub table-made : (clear0 : Bool) (pal : List ℕ) (p count : ℕ) (before : List ℕ) {table : List ℕ}
+    → table ≡ painted (indexed clear0 pal p) count before → Table clear0 pal p count table
+table-made clear0 pal p count before e =
+    let fours : Fours (indexed clear0 pal p) count = λ i l. indexed-four clear0 pal p i in
+    record {
+      room = rw e (painted-room (indexed clear0 pal p) count before fours);
+      at = λ k h. rw e (painted-at (indexed clear0 pal p) count k before fours h);
+    }
+
+-- formats 2 to 4: the texel is in the table
+pub indexed-texel : (bits : ℕ) (clear0 : Bool) (texels pal : List ℕ) (p n : ℕ) {table : List ℕ} {k : ℕ}
+    → Table clear0 pal p (2 ^ bits) table → k ≡ texelBits bits texels n
+    → take 4 (drop (4 * k) table) ≡ formats2to4 bits clear0 texels pal p n
+unfolding formats2to4
+indexed-texel bits clear0 texels pal p n t e = rw e (t .at (texelBits bits texels n) (texel-lt bits texels n))
+
+-- formats 1 and 6: its colour is
+other-alpha : (color a : ℕ) → withAlpha (pixel color 31) a ≡ pixel color a
+unfolding pixel
+other-alpha color a = refl
+
+translucent : (pal : List ℕ) (p count : ℕ) {table : List ℕ} → Table false pal p count table → (k a : ℕ) → k < count
+    → withAlpha (take 4 (drop (4 * k) table)) a ≡ pixel (paletteColor pal p k) a
+unfolding indexed
+translucent pal p count t k a h = rw (t .at k h) (other-alpha (paletteColor pal p k) a)
+
+-- by the texel's byte
+module _ (texels pal : List ℕ) (p n : ℕ) {table : List ℕ} (byte : getD texels n 0 < 256) where
+  pub format1-texel : Table false pal p 32 table
+      → withAlpha (take 4 (drop (4 * bitAnd (getD texels n 0) 31) table)) (alpha3 (getD texels n 0 / 32)) ≡ format1 texels pal p n
+  unfolding format1
+  format1-texel t =
+      let x = getD texels n 0 in
+      let small : x / 32 % 8 ≡ x / 32 = omega arith in
+      rw (and-mask (getD texels n 0) 5, small) (translucent pal p 32 t (x % 32) (alpha3 (x / 32)) (omega arith))
+
+  pub format6-texel : Table false pal p 8 table
+      → withAlpha (take 4 (drop (4 * bitAnd (getD texels n 0) 7) table)) (getD texels n 0 / 8) ≡ format6 texels pal p n
+  unfolding format6
+  format6-texel t =
+      let x = getD texels n 0 in
+      let small : x / 8 % 32 ≡ x / 8 = omega arith in
+      rw (and-mask (getD texels n 0) 3, small) (translucent pal p 8 t (x % 8) (x / 8) (omega arith))

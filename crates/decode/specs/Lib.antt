@@ -1,0 +1,3 @@
+pub mod Pictures
+pub mod Steps
+pub mod Texels

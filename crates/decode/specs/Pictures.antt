@@ -1,0 +1,80 @@
+-- Pictures: texels in order, direct decoding, and a picture from a block. Assumes nothing.
+use Prim.Native.Nat.{ℕ, zero, suc, _*_, _/_, _%_}
+use mathlib.Core.Bool.{Bool, false, cond, _||_}
+use mathlib.Core.List.{List, [], _++_}
+use lib.ListN.{length, drop}
+use lib.Dec.{ltb, eqb}
+use Rattle.util.specs.Outcome.{Outcome, result, refusal, _>>=_}
+use Rattle.nds.specs.Params.{width, height, format, color0Transparent}
+use Rattle.nds.specs.Formats.{paletteNeeded, dataLength, secondLength}
+use Rattle.nitro.specs.Script.{Answer}
+use Rattle.nitro.specs.Tex.{Contents}
+use Rattle.nitro.specs.Calls.{Sources, sourcesOf}
+use Rattle.nitro.specs.declared.tex.PaletteChoice.{PaletteChoice}
+use Rattle.nitro.specs.declared.tex.PaletteOff.{PaletteOff}
+use Rattle.nitro.specs.declared.tex.PaletteOff.the-variants as off
+use Rattle.decode.specs.Texels as Texels
+
+-- 01, "Pixels": "Texels run by rows from the top left, four output bytes R, G, B, A each": the bytes of the first n texels.
+unfoldable pub quads : (texel : ℕ → List ℕ) (n : ℕ) → List ℕ
+quads texel zero = []
+quads texel (suc n) = quads texel n ++ texel n
+
+-- "A picture is 4 · width · height bytes".
+abbrev pub texelCount : (word : ℕ) → ℕ
+texelCount w = width w * height w
+
+abbrev pub pictureLength : (word : ℕ) → ℕ
+pictureLength w = 4 * texelCount w
+
+abbrev pub offOf : PaletteOff → ℕ
+offOf off.None = 0
+offOf (off.At p) = p
+
+-- Texel n, by the word's format. Format 0 has none.
+unfoldable pub texel : Sources → (n : ℕ) → List ℕ
+texel s n =
+    let f = format (s .word) in
+    let bit29 = color0Transparent (s .word) in
+    let w = width (s .word) in
+    let texels = s .parts .data1 in
+    let p = offOf (s .palette) in
+    cond (eqb f 1) (Texels.format1 texels (s .palBlock) p n)
+    (cond (eqb f 2) (Texels.formats2to4 2 bit29 texels (s .palBlock) p n)
+    (cond (eqb f 3) (Texels.formats2to4 4 bit29 texels (s .palBlock) p n)
+    (cond (eqb f 4) (Texels.formats2to4 8 bit29 texels (s .palBlock) p n)
+    (cond (eqb f 5) (Texels.format5 w texels (s .parts .data2) (s .palBlock) p (n % w) (n / w))
+    (cond (eqb f 6) (Texels.format6 texels (s .palBlock) p n) (Texels.format7 texels n))))))
+
+unfoldable pub pictureBytes : Sources → List ℕ
+pictureBytes s = quads (texel s) (texelCount (s .word))
+
+-- 01, "When a call is declined": "formats 1 to 6, no palette chosen", 9; "format 0", 10; "data (second too, for 5) shorter than the word
+-- says", 12. The lengths are those of the first and second data.
+abbrev pub lacksPalette : (word : ℕ) → PaletteOff → Bool
+lacksPalette w off.None = paletteNeeded (format w)
+lacksPalette w (off.At p) = false
+
+unfoldable pub ready : (word length1 length2 : ℕ) → PaletteOff → Outcome (Unit {0})
+ready w length1 length2 palette =
+    cond (lacksPalette w palette) (refusal 9 0)
+    (cond (eqb (format w) 0) (refusal 10 0)
+    (cond (ltb length1 (dataLength w) || ltb length2 (secondLength w)) (refusal 12 0) (result tt)))
+
+-- "Direct decoding (..): 9, 10, 12, 11." 11 is the output's: `Writes` of the crate nitro has it.
+unfoldable pub decoded : Sources → Outcome (List ℕ)
+decoded s = do
+  _ ← ready (s .word) (length (s .parts .data1)) (length (s .parts .data2)) (s .palette)
+  result (pictureBytes s)
+
+-- "A picture from a block: reading, 7, 8 (also where the palette is unneeded), 9, 10, 12, 11."
+unfoldable pub pictureOf : (n : ℕ) → PaletteChoice → Answer Contents → Outcome (List ℕ)
+pictureOf n choice a = do
+  sources ← sourcesOf n choice a
+  decoded sources
+
+-- What the functions between these hand on.
+
+-- The first n texels written, and "the output beyond them keeps its content".
+unfoldable pub painted : (texel : ℕ → List ℕ) (n : ℕ) (output : List ℕ) → List ℕ
+painted texel n output = quads texel n ++ drop (4 * n) output

@@ -1,0 +1,578 @@
+// Decodes textures to RGBA, eight bits a channel.
+use nds::texture_params::TextureParams;
+use nitro::errors::Counted;
+use nitro::errors::Refusal;
+use nitro::errors::Status;
+use nitro::tex::PaletteOff;
+use util::view::view_u16;
+ghost use mathlib.Core.Path.{_≡_};
+ghost use Prim.Native.Nat.{_+_, _*_, _/_, _%_, _≤_, _<_, _^_};
+ghost use lib.ListN.{length, take, drop};
+ghost use lib.Seq.{sets};
+ghost use Rattle.nds.specs.Params as Params;
+ghost use Rattle.nitro.specs.Refusal.{statusOutcome, countedOutcome};
+ghost use Rattle.nitro.specs.Output.{Writes};
+ghost use Rattle.decode.specs.Texels as Texels;
+ghost use Rattle.decode.specs.Pictures as Pictures;
+ghost use Rattle.decode.specs.Steps as Steps;
+
+// A colour's red level, five bits.
+fn red(rgb555: u16) -> u8
+    ensures { λ r. ⌜ r ≡ Texels.red rgb555 ⌝ }
+{
+    (rgb555 & 31) as u8
+}
+
+// A colour's green level, five bits.
+fn green(rgb555: u16) -> u8
+    ensures { λ r. ⌜ r ≡ Texels.green rgb555 ⌝ }
+{
+    ((rgb555 >> 5) & 31) as u8
+}
+
+// A colour's blue level, five bits.
+fn blue(rgb555: u16) -> u8
+    ensures { λ r. ⌜ r ≡ Texels.blue rgb555 ⌝ }
+{
+    ((rgb555 >> 10) & 31) as u8
+}
+
+// Widens a five-bit level to eight bits.
+fn extend_5bit_to_8bit(x: u8) -> u8
+    requires { ⌜ x < 32 ⌝ }
+    ensures { λ r. ⌜ r ≡ Texels.widen x ⌝ }
+{
+    (x << 3) | (x >> 2)
+}
+
+// Widens a three-bit alpha to five bits.
+fn a3_to_a5(x: u8) -> u8
+    requires { ⌜ x < 8 ⌝ }
+    ensures { λ r. ⌜ r ≡ Texels.alpha3 x ⌝ }
+{
+    (x << 2) | (x >> 1)
+}
+
+// The RGBA bytes of a colour and a five-bit alpha.
+fn rgb555a5(rgb555: u16, a5: u8) -> [u8; 4]
+    requires { ⌜ a5 < 32 ⌝ }
+    ensures { λ r. ⌜ r ≡ Texels.pixel rgb555 a5 ⌝ }
+{
+    [
+        extend_5bit_to_8bit(red(rgb555)),
+        extend_5bit_to_8bit(green(rgb555)),
+        extend_5bit_to_8bit(blue(rgb555)),
+        extend_5bit_to_8bit(a5),
+    ]
+}
+
+// Colour i of the palette at off, or 0 where it is not wholly inside the palette block.
+fn palette_color(pal: &[u8], off: u32, i: u16) -> u16
+    ensures { λ r. ⌜ r ≡ Texels.paletteColor (now (pal .entry)) off i ⌝ }
+{
+    let at = off as usize + 2 * (i as usize);
+    if at + 2 <= pal.len() {
+        view_u16(pal, at)
+    } else {
+        0
+    }
+}
+
+// Writes texel n of a picture.
+fn put_pixel(out: &mut [u8], n: usize, pixel: [u8; 4])
+    requires { ⌜ 4 * n + 4 ≤ length (now out) ⌝ }
+    ensures { λ r. ⌜ now (out .exit) ≡ sets (now (out .entry)) (4 * n) pixel ⌝ }
+{
+    let at = 4 * n;
+    out[at] = pixel[0];
+    out[at + 1] = pixel[1];
+    out[at + 2] = pixel[2];
+    out[at + 3] = pixel[3];
+}
+
+// Texel k of a row of texels.
+fn pixel_at(texels: &[u8], k: usize) -> [u8; 4]
+    requires { ⌜ 4 * k + 4 ≤ length (now texels) ⌝ }
+    ensures { λ r. ⌜ r ≡ take 4 (drop (4 * k) (now (texels .entry))) ⌝ }
+{
+    let at = 4 * k;
+    [texels[at], texels[at + 1], texels[at + 2], texels[at + 3]]
+}
+
+// The alpha of a texel of formats 2 to 4 by its colour index.
+fn index_alpha(i: u8, clear0: bool) -> u8
+    ensures { λ r. ⌜ (r ≡ Texels.indexAlpha clear0 i) × (r < 32) ⌝ }
+{
+    if clear0 {
+        if i == 0 {
+            return 0;
+        }
+    }
+    31
+}
+
+// A texel of formats 2 to 4 by its colour index.
+fn indexed(pal: &[u8], off: u32, i: u8, clear0: bool) -> [u8; 4]
+    ensures { λ r. ⌜ r ≡ Texels.indexed clear0 (now (pal .entry)) off i ⌝ }
+{
+    rgb555a5(palette_color(pal, off, i as u16), index_alpha(i, clear0))
+}
+
+// Writes the texels of the colour indices below count, in order.
+fn expand_palette(table: &mut [u8], count: usize, pal: &[u8], off: u32, clear0: bool)
+    requires { ⌜ (4 * count ≤ length (now table)) × (count ≤ 256) ⌝ }
+    ensures { λ r. ⌜ now (table .exit) ≡ Pictures.painted (Texels.indexed clear0 (now (pal .entry)) off) count (now (table .entry)) ⌝ }
+{
+    let mut i: usize = 0;
+    while i < count {
+        put_pixel(table, i, indexed(pal, off, i as u8, clear0));
+        i += 1;
+    }
+}
+
+// A texel with another alpha.
+fn with_alpha(pixel: [u8; 4], a5: u8) -> [u8; 4]
+    requires { ⌜ a5 < 32 ⌝ }
+    ensures { λ r. ⌜ r ≡ Steps.withAlpha pixel a5 ⌝ }
+{
+    [pixel[0], pixel[1], pixel[2], extend_5bit_to_8bit(a5)]
+}
+
+// A3I5 translucent texture: 3-bit alpha, 5-bit colour index.
+fn decode_format1(out: &mut [u8], num_texels: usize, data1: &[u8], pal: &[u8], off: u32)
+    requires { ⌜ (4 * «num_texels» ≤ length (now out)) × («num_texels» ≤ length (now data1)) ⌝ }
+    ensures { λ r. ⌜ now (out .exit) ≡ Pictures.painted (Texels.format1 (now (data1 .entry)) (now (pal .entry)) off) «num_texels» (now (out .entry)) ⌝ }
+{
+    let mut table = [0u8; 128];
+    expand_palette(&mut table, 32, pal, off, false);
+    let mut n: usize = 0;
+    while n < num_texels {
+        let x = data1[n];
+        let color = pixel_at(&table, (x & 31) as usize);
+        put_pixel(out, n, with_alpha(color, a3_to_a5(x >> 5)));
+        n += 1;
+    }
+}
+
+// The colour index of texel n, where four texels share a byte.
+fn index2(data1: &[u8], n: usize) -> u8
+    requires { ⌜ n / 4 < length (now data1) ⌝ }
+    ensures { λ r. ⌜ r ≡ Texels.texelBits 2 (now (data1 .entry)) n ⌝ }
+{
+    (data1[n >> 2] >> (2 * (n & 3))) & 3
+}
+
+// The colour index of texel n, where two texels share a byte.
+fn index3(data1: &[u8], n: usize) -> u8
+    requires { ⌜ n / 2 < length (now data1) ⌝ }
+    ensures { λ r. ⌜ r ≡ Texels.texelBits 4 (now (data1 .entry)) n ⌝ }
+{
+    (data1[n >> 1] >> (4 * (n & 1))) & 15
+}
+
+// 4-colour palette texture.
+fn decode_format2(
+    out: &mut [u8],
+    num_texels: usize,
+    data1: &[u8],
+    pal: &[u8],
+    off: u32,
+    clear0: bool,
+)
+    requires { ⌜ (4 * «num_texels» ≤ length (now out)) × («num_texels» ≤ 4 * length (now data1)) ⌝ }
+    ensures { λ r. ⌜ now (out .exit) ≡ Pictures.painted (Texels.formats2to4 2 clear0 (now (data1 .entry)) (now (pal .entry)) off) «num_texels» (now (out .entry)) ⌝ }
+{
+    let mut table = [0u8; 16];
+    expand_palette(&mut table, 4, pal, off, clear0);
+    let mut n: usize = 0;
+    while n < num_texels {
+        put_pixel(out, n, pixel_at(&table, index2(data1, n) as usize));
+        n += 1;
+    }
+}
+
+// 16-colour palette texture.
+fn decode_format3(
+    out: &mut [u8],
+    num_texels: usize,
+    data1: &[u8],
+    pal: &[u8],
+    off: u32,
+    clear0: bool,
+)
+    requires { ⌜ (4 * «num_texels» ≤ length (now out)) × («num_texels» ≤ 2 * length (now data1)) ⌝ }
+    ensures { λ r. ⌜ now (out .exit) ≡ Pictures.painted (Texels.formats2to4 4 clear0 (now (data1 .entry)) (now (pal .entry)) off) «num_texels» (now (out .entry)) ⌝ }
+{
+    let mut table = [0u8; 64];
+    expand_palette(&mut table, 16, pal, off, clear0);
+    let mut n: usize = 0;
+    while n < num_texels {
+        put_pixel(out, n, pixel_at(&table, index3(data1, n) as usize));
+        n += 1;
+    }
+}
+
+// 256-colour palette texture.
+fn decode_format4(
+    out: &mut [u8],
+    num_texels: usize,
+    data1: &[u8],
+    pal: &[u8],
+    off: u32,
+    clear0: bool,
+)
+    requires { ⌜ (4 * «num_texels» ≤ length (now out)) × («num_texels» ≤ length (now data1)) ⌝ }
+    ensures { λ r. ⌜ now (out .exit) ≡ Pictures.painted (Texels.formats2to4 8 clear0 (now (data1 .entry)) (now (pal .entry)) off) «num_texels» (now (out .entry)) ⌝ }
+{
+    let mut table = [0u8; 1024];
+    expand_palette(&mut table, 256, pal, off, clear0);
+    let mut n: usize = 0;
+    while n < num_texels {
+        put_pixel(out, n, pixel_at(&table, data1[n] as usize));
+        n += 1;
+    }
+}
+
+// A palette colour with full alpha.
+fn opaque(pal: &[u8], off: u32, i: u16) -> [u8; 4]
+    ensures { λ r. ⌜ r ≡ Texels.opaque (now (pal .entry)) off 0 i ⌝ }
+{
+    rgb555a5(palette_color(pal, off, i), 31)
+}
+
+// (v1 + v2) / 2 of two levels, widened.
+fn avg_level(v1: u8, v2: u8) -> u8
+    requires { ⌜ (v1 < 32) × (v2 < 32) ⌝ }
+    ensures { λ r. ⌜ r ≡ Texels.mixChannel 1 1 (Texels.widen v1) (Texels.widen v2) ⌝ }
+{
+    let sum = extend_5bit_to_8bit(v1) as u32 + extend_5bit_to_8bit(v2) as u32;
+    (sum / 2) as u8
+}
+
+// (3 * v1 + 5 * v2) / 8 of two levels, widened.
+fn avg358_level(v1: u8, v2: u8) -> u8
+    requires { ⌜ (v1 < 32) × (v2 < 32) ⌝ }
+    ensures { λ r. ⌜ r ≡ Texels.mixChannel 3 5 (Texels.widen v1) (Texels.widen v2) ⌝ }
+{
+    let sum = 3 * (extend_5bit_to_8bit(v1) as u32) + 5 * (extend_5bit_to_8bit(v2) as u32);
+    (sum / 8) as u8
+}
+
+// (c1 + c2) / 2 of two palette colours.
+fn avg(c1: u16, c2: u16) -> [u8; 4]
+    ensures { λ r. ⌜ r ≡ Texels.mix 1 1 (Texels.pixel c1 31) (Texels.pixel c2 31) ⌝ }
+{
+    [
+        avg_level(red(c1), red(c2)),
+        avg_level(green(c1), green(c2)),
+        avg_level(blue(c1), blue(c2)),
+        avg_level(31, 31),
+    ]
+}
+
+// (3 * c1 + 5 * c2) / 8 of two palette colours.
+fn avg358(c1: u16, c2: u16) -> [u8; 4]
+    ensures { λ r. ⌜ r ≡ Texels.mix 3 5 (Texels.pixel c1 31) (Texels.pixel c2 31) ⌝ }
+{
+    [
+        avg358_level(red(c1), red(c2)),
+        avg358_level(green(c1), green(c2)),
+        avg358_level(blue(c1), blue(c2)),
+        avg358_level(31, 31),
+    ]
+}
+
+// A texel of a block in mode 0: three colours, and clear.
+fn mode0_color(pal: &[u8], off: u32, first: u16, texel: u8) -> [u8; 4]
+    requires { ⌜ (first < 2 ^ 15) × (texel < 4) ⌝ }
+    ensures { λ r. ⌜ r ≡ Texels.modeColor (now (pal .entry)) off first 0 texel ⌝ }
+{
+    if texel < 3 {
+        opaque(pal, off, first + texel as u16)
+    } else {
+        [0, 0, 0, 0]
+    }
+}
+
+// A texel of a block in mode 1: two colours, their average, and clear.
+fn mode1_color(pal: &[u8], off: u32, first: u16, texel: u8) -> [u8; 4]
+    requires { ⌜ (first < 2 ^ 15) × (texel < 4) ⌝ }
+    ensures { λ r. ⌜ r ≡ Texels.modeColor (now (pal .entry)) off first 1 texel ⌝ }
+{
+    if texel < 2 {
+        return opaque(pal, off, first + texel as u16);
+    }
+    if texel < 3 {
+        let c0 = palette_color(pal, off, first);
+        let c1 = palette_color(pal, off, first + 1);
+        return avg(c0, c1);
+    }
+    [0, 0, 0, 0]
+}
+
+// A texel of a block in mode 2: four colours.
+fn mode2_color(pal: &[u8], off: u32, first: u16, texel: u8) -> [u8; 4]
+    requires { ⌜ (first < 2 ^ 15) × (texel < 4) ⌝ }
+    ensures { λ r. ⌜ r ≡ Texels.modeColor (now (pal .entry)) off first 2 texel ⌝ }
+{
+    opaque(pal, off, first + texel as u16)
+}
+
+// A texel of a block in mode 3: two colours, and two mixes of them.
+fn mode3_color(pal: &[u8], off: u32, first: u16, texel: u8) -> [u8; 4]
+    requires { ⌜ (first < 2 ^ 15) × (texel < 4) ⌝ }
+    ensures { λ r. ⌜ r ≡ Texels.modeColor (now (pal .entry)) off first 3 texel ⌝ }
+{
+    if texel < 2 {
+        return opaque(pal, off, first + texel as u16);
+    }
+    let c0 = palette_color(pal, off, first);
+    let c1 = palette_color(pal, off, first + 1);
+    if texel < 3 {
+        avg358(c1, c0)
+    } else {
+        avg358(c0, c1)
+    }
+}
+
+// A texel of a block by the block's mode.
+fn mode_color(pal: &[u8], off: u32, first: u16, mode: u8, texel: u8) -> [u8; 4]
+    requires { ⌜ (first < 2 ^ 15) × (mode < 4) × (texel < 4) ⌝ }
+    ensures { λ r. ⌜ r ≡ Texels.modeColor (now (pal .entry)) off first mode texel ⌝ }
+{
+    match mode {
+        0 => mode0_color(pal, off, first, texel),
+        1 => mode1_color(pal, off, first, texel),
+        2 => mode2_color(pal, off, first, texel),
+        _ => mode3_color(pal, off, first, texel),
+    }
+}
+
+// Writes the four texels that a block's texels are chosen from.
+fn block_colors(table: &mut [u8], pal: &[u8], off: u32, extra: u16)
+    requires { ⌜ 16 ≤ length (now table) ⌝ }
+    ensures { λ r. ⌜ now (table .exit) ≡ Pictures.painted (Texels.blockColor (now (pal .entry)) off extra) 4 (now (table .entry)) ⌝ }
+{
+    let first = (extra & 0x3fff) << 1;
+    let mode = (extra >> 14) as u8;
+    let mut texel: usize = 0;
+    while texel < 4 {
+        put_pixel(table, texel, mode_color(pal, off, first, mode, texel as u8));
+        texel += 1;
+    }
+}
+
+// Writes a row of a block at texel n: the four texels that the row's byte chooses.
+fn put_row(out: &mut [u8], n: usize, table: &[u8], row: u8)
+    requires { ⌜ (4 * n + 16 ≤ length (now out)) × (16 ≤ length (now table)) ⌝ }
+    ensures { λ r. ⌜ now (out .exit) ≡ sets (now (out .entry)) (4 * n) (Steps.rowBytes (now (table .entry)) row) ⌝ }
+{
+    put_pixel(out, n, pixel_at(table, (row & 3) as usize));
+    put_pixel(out, n + 1, pixel_at(table, ((row >> 2) & 3) as usize));
+    put_pixel(out, n + 2, pixel_at(table, ((row >> 4) & 3) as usize));
+    put_pixel(out, n + 3, pixel_at(table, (row >> 6) as usize));
+}
+
+// Writes block b, whose top left texel is texel x of the first row.
+fn put_block(out: &mut [u8], width: usize, x: usize, data1: &[u8], b: usize, table: &[u8])
+    requires { ⌜ Steps.BlockFits width x b (length (now data1)) (length (now table)) (length (now out)) ⌝ }
+    ensures { λ r. ⌜ Steps.BlockPut width x (λ i. Steps.rowBytes (now (table .entry)) (Steps.byteOf (now (data1 .entry)) (4 * b + i))) (now (out .entry)) (now (out .exit)) ⌝ }
+{
+    let mut i: usize = 0;
+    while i < 4 {
+        put_row(out, i * width + x, table, data1[4 * b + i]);
+        i += 1;
+    }
+}
+
+// Writes four rows of a block-compressed picture, those of a row of blocks.
+fn put_blocks(
+    out: &mut [u8],
+    width: usize,
+    row: usize,
+    data1: &[u8],
+    data2: &[u8],
+    pal: &[u8],
+    off: u32,
+)
+    requires { ⌜ Steps.BlocksFit width row (length (now data1)) (length (now data2)) (length (now out)) ⌝ }
+    ensures { λ r. ⌜ now (out .exit) ≡ Pictures.painted (Steps.rowsTexel width (now (data1 .entry)) (now (data2 .entry)) (now (pal .entry)) off row) (4 * width) (now (out .entry)) ⌝ }
+{
+    let num_blocks_x = width / 4;
+    let mut table = [0u8; 16];
+    let mut i: usize = 0;
+    while i < num_blocks_x {
+        let b = num_blocks_x * row + i;
+        block_colors(&mut table, pal, off, view_u16(data2, 2 * b));
+        put_block(out, width, 4 * i, data1, b, &table);
+        i += 1;
+    }
+}
+
+// Block-compressed texture.
+fn decode_format5(
+    out: &mut [u8],
+    width: usize,
+    height: usize,
+    data1: &[u8],
+    data2: &[u8],
+    pal: &[u8],
+    off: u32,
+)
+    requires { ⌜ Steps.PictureFits width height (length (now data1)) (length (now data2)) (length (now out)) ⌝ }
+    ensures { λ r. ⌜ now (out .exit) ≡ Pictures.painted (Steps.compressedTexel width (now (data1 .entry)) (now (data2 .entry)) (now (pal .entry)) off) (width * height) (now (out .entry)) ⌝ }
+{
+    let num_blocks_y = height / 4;
+    let mut i: usize = 0;
+    while i < num_blocks_y {
+        let at = 16 * (width * i);
+        put_blocks(&mut out[at..], width, i, data1, data2, pal, off);
+        i += 1;
+    }
+}
+
+// A5I3 translucent texture: 5-bit alpha, 3-bit colour index.
+fn decode_format6(out: &mut [u8], num_texels: usize, data1: &[u8], pal: &[u8], off: u32)
+    requires { ⌜ (4 * «num_texels» ≤ length (now out)) × («num_texels» ≤ length (now data1)) ⌝ }
+    ensures { λ r. ⌜ now (out .exit) ≡ Pictures.painted (Texels.format6 (now (data1 .entry)) (now (pal .entry)) off) «num_texels» (now (out .entry)) ⌝ }
+{
+    let mut table = [0u8; 32];
+    expand_palette(&mut table, 8, pal, off, false);
+    let mut n: usize = 0;
+    while n < num_texels {
+        let x = data1[n];
+        let color = pixel_at(&table, (x & 7) as usize);
+        put_pixel(out, n, with_alpha(color, x >> 3));
+        n += 1;
+    }
+}
+
+// A texel of format 7 by its colour.
+fn direct(rgb555: u16) -> [u8; 4]
+    ensures { λ r. ⌜ r ≡ Texels.direct rgb555 ⌝ }
+{
+    let alpha_bit = rgb555 >> 15;
+    if alpha_bit == 0 {
+        rgb555a5(rgb555, 0)
+    } else {
+        rgb555a5(rgb555, 31)
+    }
+}
+
+// Direct colour texture: 16-bit colours, no palette.
+fn decode_format7(out: &mut [u8], num_texels: usize, data1: &[u8])
+    requires { ⌜ (4 * «num_texels» ≤ length (now out)) × (2 * «num_texels» ≤ length (now data1)) ⌝ }
+    ensures { λ r. ⌜ now (out .exit) ≡ Pictures.painted (Texels.format7 (now (data1 .entry))) «num_texels» (now (out .entry)) ⌝ }
+{
+    let mut n: usize = 0;
+    while n < num_texels {
+        put_pixel(out, n, direct(view_u16(data1, 2 * n)));
+        n += 1;
+    }
+}
+
+// The number of texels of a picture.
+fn num_texels(params: TextureParams) -> usize
+    ensures { λ r. ⌜ (r ≡ Pictures.texelCount (params .0)) × (r < 2 ^ 32) ⌝ }
+{
+    (params.width() * params.height()) as usize
+}
+
+// Whether the texture's format needs a palette that was not chosen.
+fn lacks_palette(params: TextureParams, palette: PaletteOff) -> bool
+    ensures { λ r. ⌜ r ≡ Pictures.lacksPalette (params .0) palette ⌝ }
+{
+    let desc = params.format().desc();
+    match palette {
+        PaletteOff::None => desc.requires_palette,
+        PaletteOff::At(_) => false,
+    }
+}
+
+// Whether data of these lengths can be decoded, to an output of room bytes.
+fn check(
+    params: TextureParams,
+    len1: usize,
+    len2: usize,
+    palette: PaletteOff,
+    room: usize,
+) -> Status
+    ensures { λ r. ⌜ statusOutcome r ≡ Steps.checked (params .0) len1 len2 palette room ⌝ }
+{
+    if lacks_palette(params, palette) {
+        return Status::Refused(Refusal::NoPalette);
+    }
+    let format = params.format();
+    if format.0 == 0 {
+        return Status::Refused(Refusal::NoTexels);
+    }
+    if len1 < params.byte_len() {
+        return Status::Refused(Refusal::ShortData);
+    }
+    if len2 < params.byte_len2() {
+        return Status::Refused(Refusal::ShortData);
+    }
+    if room < 4 * num_texels(params) {
+        return Status::Refused(Refusal::Output);
+    }
+    Status::Done
+}
+
+// The offset of a palette, or 0 where there is none.
+fn off_of(palette: PaletteOff) -> u32
+    ensures { λ r. ⌜ r ≡ Pictures.offOf palette ⌝ }
+{
+    match palette {
+        PaletteOff::None => 0,
+        PaletteOff::At(off) => off,
+    }
+}
+
+// Writes all texels, by the texture's format.
+fn decode_format(
+    out: &mut [u8],
+    params: TextureParams,
+    data1: &[u8],
+    data2: &[u8],
+    palette: PaletteOff,
+    pal: &[u8],
+)
+    requires { ⌜ Steps.Decodable (params .0) (length (now data1)) (length (now data2)) (length (now out)) ⌝ }
+    ensures { λ r. ⌜ now (out .exit) ≡ Pictures.painted (Pictures.texel (Steps.sources (params .0) (now (data1 .entry)) (now (data2 .entry)) palette (now (pal .entry)))) (Pictures.texelCount (params .0)) (now (out .entry)) ⌝ }
+{
+    let n = num_texels(params);
+    let off = off_of(palette);
+    let clear0 = params.is_color0_transparent();
+    let format = params.format().0;
+    match format {
+        1 => decode_format1(out, n, data1, pal, off),
+        2 => decode_format2(out, n, data1, pal, off, clear0),
+        3 => decode_format3(out, n, data1, pal, off, clear0),
+        4 => decode_format4(out, n, data1, pal, off, clear0),
+        5 => {
+            let width = params.width() as usize;
+            let height = params.height() as usize;
+            decode_format5(out, width, height, data1, data2, pal, off)
+        }
+        6 => decode_format6(out, n, data1, pal, off),
+        _ => decode_format7(out, n, data1),
+    }
+}
+
+// Decodes a texture, with a palette where its format needs one, and returns the picture's length in bytes.
+pub fn decode_texture(
+    params: TextureParams,
+    data1: &[u8],
+    data2: &[u8],
+    palette: PaletteOff,
+    pal: &[u8],
+    out: &mut [u8],
+) -> Counted
+    ensures { λ r. ⌜ Writes (Pictures.decoded (Steps.sources (params .0) (now (data1 .entry)) (now (data2 .entry)) palette (now (pal .entry)))) (now (out .entry)) (countedOutcome r) (now (out .exit)) ⌝ }
+{
+    if let Status::Refused(refusal) = check(params, data1.len(), data2.len(), palette, out.len()) {
+        return Counted::Refused(refusal);
+    }
+    decode_format(out, params, data1, data2, palette, pal);
+    Counted::Count(4 * num_texels(params))
+}
