@@ -46,7 +46,10 @@ fn refused(refusal: Refusal) {
         Refusal::Dummy(kind) => number(by_kind(kind, 3, 5)),
         Refusal::DatumSize(kind) => number(by_kind(kind, 4, 6)),
         Refusal::Number(kind) => number(by_kind(kind, 7, 8)),
+        Refusal::NoPalette => number(9),
+        Refusal::NoTexels => number(10),
         Refusal::Output => number(11),
+        Refusal::ShortData => number(12),
     }
 }
 

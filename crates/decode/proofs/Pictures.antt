@@ -6,9 +6,9 @@ use mathlib.Core.List.{List, _++_}
 use native.Mathlib.Nat.{mul-assoc, mul-comm}
 use native.Mathlib.Omega.{arith}
 use lib.ListN.{length, drop}
-use lib.Dec.{eqb, leb, ltb}
+use lib.Dec.{eqb, ltb}
 use lib.Pow.{pow-pos}
-use borrow.Author.Tests.{eq-eqb, ne-eqb, le-leb, lt-leb, lt-ltb, le-ltb, leb-true, leb-false, ltb-false, eqb-false}
+use borrow.Author.Tests.{eq-eqb, ne-eqb, ltb-true, ltb-false, eqb-false}
 use Rattle.util.specs.Outcome.{Outcome, result, refusal, _>>=_}
 use Rattle.nds.specs.Params.{width, height, format, color0Transparent}
 use Rattle.nds.specs.Formats.{bitsPerTexel, dataLength, secondLength}
@@ -24,8 +24,8 @@ use Rattle.nitro.proofs.Runs.{refusal-not, refusal-any}
 use Rattle.nitro.proofs.Answers.{passed-on}
 use Rattle.nitro.proofs.Outputs.{writes-fits, writes-refusal, writes-short}
 use Rattle.decode.specs.Texels as Texels
-use Rattle.decode.specs.Pictures.{quads, painted, texelCount, pictureLength, offOf, texel, pictureBytes, lacksPalette, ready, decoded, pictureOf}
-use Rattle.decode.specs.Steps.{Decodable, PictureFits, checked, compressedTexel}
+use Rattle.decode.specs.Pictures.{quads, painted, texelCount, pictureLength, offOf, texel, pictureBytes, lacksPalette, lacksData, ready, decoded, pictureOf}
+use Rattle.decode.specs.Steps.{Decodable, lacksRoom, checked, compressedTexel}
 use Rattle.decode.proofs.Quads.{Fours, length-quads, quads-same}
 use Rattle.decode.proofs.Texels.{format1-four, formats2to4-four, format5-four, format6-four, format7-four}
 
@@ -72,59 +72,49 @@ module _ (w length1 length2 : ℕ) (palette : PaletteOff) (room : ℕ) where
     no-texels e = rw (chosen, e)
 
     module _ (some : format w ≡ 0 → ⊥) where
-      pub short-first : length1 < dataLength w → refusal 12 0 ≡ checked w length1 length2 palette room
+      pub no-data : lacksData w length1 length2 ≡ true → refusal 12 0 ≡ checked w length1 length2 palette room
       unfolding checked ready _>>=_
-      short-first h = rw (chosen, ne-eqb (format w) 0 some, lt-ltb length1 (dataLength w) h)
+      no-data e = rw (chosen, ne-eqb (format w) 0 some, e)
 
-      module _ (first : dataLength w ≤ length1) where
-        pub short-second : length2 < secondLength w → refusal 12 0 ≡ checked w length1 length2 palette room
+      module _ (there : lacksData w length1 length2 ≡ false) where
+        pub no-room : lacksRoom w room ≡ true → refusal 11 0 ≡ checked w length1 length2 palette room
         unfolding checked ready _>>=_
-        short-second h = rw (chosen, ne-eqb (format w) 0 some, le-ltb length1 (dataLength w) first, lt-ltb length2 (secondLength w) h)
+        no-room e = rw (chosen, ne-eqb (format w) 0 some, there, e)
 
-        module _ (second : secondLength w ≤ length2) where
-          is-ready : ready w length1 length2 palette ≡ result tt
-          unfolding ready
-          is-ready = rw (chosen, ne-eqb (format w) 0 some, le-ltb length1 (dataLength w) first, le-ltb length2 (secondLength w) second)
+        pub all-there : lacksRoom w room ≡ false → result tt ≡ checked w length1 length2 palette room
+        unfolding checked ready _>>=_
+        all-there e = rw (chosen, ne-eqb (format w) 0 some, there, e)
 
-          pub no-room : room < pictureLength w → refusal 11 0 ≡ checked w length1 length2 palette room
-          unfolding checked _>>=_
-          no-room h = rw (is-ready, lt-leb (pictureLength w) room h)
-
-          pub all-there : pictureLength w ≤ room → result tt ≡ checked w length1 length2 palette room
-          unfolding checked _>>=_
-          all-there h = rw (is-ready, le-leb (pictureLength w) room h)
-
-  -- what is ready to be decoded
+  -- and when it is not
   pub record Ready : Type 0 where
     pub decodable : Decodable w length1 length2 room
     pub is : ready w length1 length2 palette ≡ result tt
 
   pub ready-if : result tt ≡ checked w length1 length2 palette room → Ready
   unfolding checked ready _>>=_
-  ready-if e = go (lacksPalette w palette) (eqb (format w) 0) (ltb length1 (dataLength w)) (ltb length2 (secondLength w)) refl refl refl refl
+  ready-if e =
+      go (lacksPalette w palette) (eqb (format w) 0) (ltb length1 (dataLength w)) (ltb length2 (secondLength w)) (lacksRoom w room)
+      refl refl refl refl refl
     where
       no : {A : Type 0} {n v : ℕ} → _≡_ {A = Outcome (Unit {0})} (result tt) (refusal n v) → A
       no q = let z : _≡_ {A = ℕ} 0 1 = cc in absurd (omega arith)
 
-      go : (l f d s : Bool) → lacksPalette w palette ≡ l → eqb (format w) 0 ≡ f → ltb length1 (dataLength w) ≡ d
-          → ltb length2 (secondLength w) ≡ s → Ready
-      go true f d s hl hf hd hs = no (rw hl at e)
-      go false true d s hl hf hd hs = no (rw (hl, hf) at e)
-      go false false true s hl hf hd hs = no (rw (hl, hf, hd) at e)
-      go false false false true hl hf hd hs = no (rw (hl, hf, hd, hs) at e)
-      go false false false false hl hf hd hs = fit (leb (pictureLength w) room) refl
-        where
-          fit : (r : Bool) → leb (pictureLength w) room ≡ r → Ready
-          fit false hr = no (rw (hl, hf, hd, hs, hr) at e)
-          fit true hr = record {
-            decodable = record {
-              some = omega (arith, eqb-false (format w) 0 hf);
-              data1 = ltb-false _ _ hd;
-              data2 = ltb-false _ _ hs;
-              room = leb-true _ _ hr;
-            };
-            is = rw (hl, hf, hd, hs);
-          }
+      go : (l f d s r : Bool) → lacksPalette w palette ≡ l → eqb (format w) 0 ≡ f → ltb length1 (dataLength w) ≡ d
+          → ltb length2 (secondLength w) ≡ s → lacksRoom w room ≡ r → Ready
+      go true f d s r hl hf hd hs hr = no (rw hl at e)
+      go false true d s r hl hf hd hs hr = no (rw (hl, hf) at e)
+      go false false true s r hl hf hd hs hr = no (rw (hl, hf, hd) at e)
+      go false false false true r hl hf hd hs hr = no (rw (hl, hf, hd, hs) at e)
+      go false false false false true hl hf hd hs hr = no (rw (hl, hf, hd, hs, hr) at e)
+      go false false false false false hl hf hd hs hr = record {
+        decodable = record {
+          some = omega (arith, eqb-false (format w) 0 hf);
+          data1 = ltb-false _ _ hd;
+          data2 = ltb-false _ _ hs;
+          room = ltb-false _ _ hr;
+        };
+        is = rw (hl, hf, hd, hs);
+      }
 
 -- a picture's length
 module _ (s : Sources) where
@@ -173,24 +163,24 @@ module _ (s : Sources) where
     unfolding isReady isChecked checked _>>=_
     checked-not q = rw q
 
-    checked-is : isReady ≡ result tt → isChecked ≡ cond (leb (pictureLength (s .word)) (length out)) (result tt) (refusal 11 0)
+    checked-is : isReady ≡ result tt → isChecked ≡ cond (lacksRoom (s .word) (length out)) (refusal 11 0) (result tt)
     unfolding isReady isChecked checked _>>=_
     checked-is q = rw q
 
     declined : (r : Refusal) → refusalOutcome r ≡ isChecked → Writes (decoded s) out (refusalOutcome r) out
     declined r e = go isReady refl
       where
-        fit : isReady ≡ result tt → (t : Bool) → leb (pictureLength (s .word)) (length out) ≡ t
+        fit : isReady ≡ result tt → (t : Bool) → lacksRoom (s .word) (length out) ≡ t
             → Writes (decoded s) out (refusalOutcome r) out
-        fit q true h = absurd (refusal-not r (e ∙ (checked-is q ∙ rw h)))
-        fit q false h =
-            let short : length out < length (pictureBytes s) = omega (arith, length-picture, leb-false (pictureLength (s .word)) (length out) h) in
+        fit q false h = absurd (refusal-not r (e ∙ (checked-is q ∙ rw h)))
+        fit q true h =
+            let short : length out < length (pictureBytes s) = omega (arith, length-picture, ltb-true (length out) (pictureLength (s .word)) h) in
             subst (λ a. Writes (decoded s) out a out) (sym (refusal-any {k = 11} {v = 0} r (e ∙ (checked-is q ∙ rw h))))
             (rw (decoded-is q) (writes-short (pictureBytes s) out short))
 
         go : (o : Outcome (Unit {0})) → isReady ≡ o → Writes (decoded s) out (refusalOutcome r) out
         go (refusal n v) q = writes-refusal r out (refusal-any r (e ∙ checked-not q) ∙ sym (decoded-not q))
-        go (result tt) q = fit q (leb (pictureLength (s .word)) (length out)) refl
+        go (result tt) q = fit q (lacksRoom (s .word) (length out)) refl
 
     pub writes-declined : (r : Refusal)
         → refusalOutcome r ≡ checked (s .word) (length (s .parts .data1)) (length (s .parts .data2)) (s .palette) (length out)

@@ -225,12 +225,11 @@ module _ (b : List ℕ) (p : ℕ) (small : (i : ℕ) → getD b i 0 < 256) (h : 
       low : (m c : ℕ) → c < 4 → m / 2 ^ (2 * c) % 2 ^ 2 ≡ m % 256 / 2 ^ (2 * c) % 2 ^ 2
       low m = below-four (λ c. m / 2 ^ (2 * c) % 2 ^ 2 ≡ m % 256 / 2 ^ (2 * c) % 2 ^ 2) (omega arith) (omega arith) (omega arith) (omega arith)
 
--- row r of block i of row `row` of blocks
-module _ (width row i r : ℕ) (data1 data2 palBlock : List ℕ) (p : ℕ) (hr : r < 4) (h : 4 * i + 4 ≤ width) where
+-- row r of block i of row `row` of blocks, which is block b
+module _ (width row i r b : ℕ) (data1 data2 palBlock : List ℕ) (p : ℕ) (hr : r < 4) (h : 4 * i + 4 ≤ width) (is : b ≡ width / 4 * row + i) where
   -- its texel c, texel 4r + c of the block
   block-texel : (c : ℕ) → c < 4
-      → let b = width / 4 * row + i in
-      rowsTexel width data1 data2 palBlock p row (r * width + (4 * i + c))
+      → rowsTexel width data1 data2 palBlock p row (r * width + (4 * i + c))
       ≡ blockColor palBlock p (numberAt 2 (2 * b) data2) (numberAt 4 (4 * b) data1 / 2 ^ (2 * (4 * r + c)) % 2 ^ 2)
   unfolding format5
   block-texel c hc =
@@ -242,17 +241,15 @@ module _ (width row i r : ℕ) (data1 data2 palBlock : List ℕ) (p : ℕ) (hr :
       let xm : (4 * i + c) % 4 ≡ c = omega arith in
       let y4 : (4 * row + r) / 4 ≡ row = omega arith in
       let ym : (4 * row + r) % 4 ≡ r = omega arith in
-      rw (x, y, x4, xm, y4, ym)
+      rw (x, y, x4, xm, y4, ym, is)
 
   -- its bytes are those that its byte chooses from the block's colours
   pub row-texels : (extra : ℕ) (entry : List ℕ) {table : List ℕ}
-      → let b = width / 4 * row + i in
-      extra ≡ numberAt 2 (2 * b) data2 → table ≡ painted (blockColor palBlock p extra) 4 entry
+      → extra ≡ numberAt 2 (2 * b) data2 → table ≡ painted (blockColor palBlock p extra) 4 entry
       → ((k : ℕ) → getD data1 k 0 < 256) → 4 * b + 4 ≤ length data1
       → rowBytes table (byteOf data1 (4 * b + r)) ≡ quads (λ c. rowsTexel width data1 data2 palBlock p row (r * width + (4 * i + c))) 4
   unfolding rowBytes
   row-texels extra entry {table} e t bytes fits =
-      let b = width / 4 * row + i in
       quads-same (chosen table (byteOf data1 (4 * b + r))) (λ c. rowsTexel width data1 data2 palBlock p row (r * width + (4 * i + c))) 4
       (λ c l.
       let k = byteOf data1 (4 * b + r) / 2 ^ (2 * c) % 2 ^ 2 in

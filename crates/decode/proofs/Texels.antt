@@ -65,6 +65,11 @@ mix-turned x y = cc (turned (getD x 0 0) (getD y 0 0), turned (getD x 1 0) (getD
     turned : (a b : ℕ) → mixChannel 3 5 a b ≡ mixChannel 5 3 b a
     turned a b = omega arith
 
+-- colours by the same first index and mode
+pub mode-same : (pal : List ℕ) (p t : ℕ) {first first′ mode mode′ : ℕ} → first ≡ first′ → mode ≡ mode′
+    → modeColor pal p first mode t ≡ modeColor pal p first′ mode′ t
+mode-same pal p t e f = cc
+
 -- the colours of a block's modes, as the code comes to them
 module _ (pal : List ℕ) (p first : ℕ) where
   from : (i : ℕ) → opaque pal p 0 (first + i) ≡ opaque pal p first i

@@ -49,17 +49,20 @@ texel s n =
 unfoldable pub pictureBytes : Sources → List ℕ
 pictureBytes s = quads (texel s) (texelCount (s .word))
 
--- 01, "When a call is declined": "formats 1 to 6, no palette chosen", 9; "format 0", 10; "data (second too, for 5) shorter than the word
--- says", 12. The lengths are those of the first and second data.
+-- 01, "When a call is declined": "formats 1 to 6, no palette chosen".
 abbrev pub lacksPalette : (word : ℕ) → PaletteOff → Bool
 lacksPalette w off.None = paletteNeeded (format w)
 lacksPalette w (off.At p) = false
 
+-- "data (second too, for 5) shorter than the word says": by the lengths of the first and second data.
+abbrev pub lacksData : (word length1 length2 : ℕ) → Bool
+lacksData w length1 length2 = ltb length1 (dataLength w) || ltb length2 (secondLength w)
+
+-- 9, 10 for "format 0", and 12, in this order.
 unfoldable pub ready : (word length1 length2 : ℕ) → PaletteOff → Outcome (Unit {0})
 ready w length1 length2 palette =
     cond (lacksPalette w palette) (refusal 9 0)
-    (cond (eqb (format w) 0) (refusal 10 0)
-    (cond (ltb length1 (dataLength w) || ltb length2 (secondLength w)) (refusal 12 0) (result tt)))
+    (cond (eqb (format w) 0) (refusal 10 0) (cond (lacksData w length1 length2) (refusal 12 0) (result tt)))
 
 -- "Direct decoding (..): 9, 10, 12, 11." 11 is the output's: `Writes` of the crate nitro has it.
 unfoldable pub decoded : Sources → Outcome (List ℕ)

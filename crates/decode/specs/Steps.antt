@@ -2,11 +2,11 @@
 -- nothing.
 use Prim.Native.Nat.{ℕ, _+_, _*_, _/_, _%_, _^_, _≤_, _<_}
 use mathlib.Core.Path.{_≡_}
-use mathlib.Core.Bool.{cond}
+use mathlib.Core.Bool.{Bool, cond}
 use mathlib.Core.List.{List, [], _∷_}
 use lib.ListN.{length, take, drop, getD}
 use lib.Seq.{sets}
-use lib.Dec.{leb}
+use lib.Dec.{ltb}
 use Rattle.util.specs.Outcome.{Outcome, result, refusal, _>>=_}
 use Rattle.nds.specs.Params.{format}
 use Rattle.nds.specs.Formats.{dataLength, secondLength}
@@ -21,10 +21,13 @@ sources word data1 data2 palette palBlock =
     record { word = word; parts = record { data1 = data1; data2 = data2 }; palette = palette; palBlock = palBlock }
 
 -- Whether a texture can be decoded, to an output of `room` bytes. "output shorter than the result", 11.
+abbrev pub lacksRoom : (word room : ℕ) → Bool
+lacksRoom w room = ltb room (pictureLength w)
+
 unfoldable pub checked : (word length1 length2 : ℕ) → PaletteOff → (room : ℕ) → Outcome (Unit {0})
 checked w length1 length2 palette room = do
   _ ← ready w length1 length2 palette
-  cond (leb (pictureLength w) room) (result tt) (refusal 11 0)
+  cond (lacksRoom w room) (refusal 11 0) (result tt)
 
 -- A texel's colour with alpha a.
 abbrev pub withAlpha : (pixel : List ℕ) (a : ℕ) → List ℕ

@@ -212,8 +212,27 @@ fn decode_format3(
     }
 }
 
-// 256-colour palette texture.
-fn decode_format4(
+// 256-colour palette texture, each texel by itself.
+fn decode_small_format4(
+    out: &mut [u8],
+    num_texels: usize,
+    data1: &[u8],
+    pal: &[u8],
+    off: u32,
+    clear0: bool,
+)
+    requires { ⌜ (4 * «num_texels» ≤ length (now out)) × («num_texels» ≤ length (now data1)) ⌝ }
+    ensures { λ r. ⌜ now (out .exit) ≡ Pictures.painted (Texels.formats2to4 8 clear0 (now (data1 .entry)) (now (pal .entry)) off) «num_texels» (now (out .entry)) ⌝ }
+{
+    let mut n: usize = 0;
+    while n < num_texels {
+        put_pixel(out, n, indexed(pal, off, data1[n], clear0));
+        n += 1;
+    }
+}
+
+// 256-colour palette texture, by a table of all colours.
+fn decode_large_format4(
     out: &mut [u8],
     num_texels: usize,
     data1: &[u8],
@@ -230,6 +249,25 @@ fn decode_format4(
     while n < num_texels {
         put_pixel(out, n, pixel_at(&table, data1[n] as usize));
         n += 1;
+    }
+}
+
+// 256-colour palette texture. The table is worth its making where there are more texels than colours.
+fn decode_format4(
+    out: &mut [u8],
+    num_texels: usize,
+    data1: &[u8],
+    pal: &[u8],
+    off: u32,
+    clear0: bool,
+)
+    requires { ⌜ (4 * «num_texels» ≤ length (now out)) × («num_texels» ≤ length (now data1)) ⌝ }
+    ensures { λ r. ⌜ now (out .exit) ≡ Pictures.painted (Texels.formats2to4 8 clear0 (now (data1 .entry)) (now (pal .entry)) off) «num_texels» (now (out .entry)) ⌝ }
+{
+    if num_texels < 512 {
+        decode_small_format4(out, num_texels, data1, pal, off, clear0)
+    } else {
+        decode_large_format4(out, num_texels, data1, pal, off, clear0)
     }
 }
 
@@ -489,6 +527,23 @@ fn lacks_palette(params: TextureParams, palette: PaletteOff) -> bool
     }
 }
 
+// Whether the data are shorter than the texture's word says.
+fn lacks_data(params: TextureParams, len1: usize, len2: usize) -> bool
+    ensures { λ r. ⌜ r ≡ Pictures.lacksData (params .0) len1 len2 ⌝ }
+{
+    if len1 < params.byte_len() {
+        return true;
+    }
+    len2 < params.byte_len2()
+}
+
+// Whether the output is shorter than the picture.
+fn lacks_room(params: TextureParams, room: usize) -> bool
+    ensures { λ r. ⌜ r ≡ Steps.lacksRoom (params .0) room ⌝ }
+{
+    room < 4 * num_texels(params)
+}
+
 // Whether data of these lengths can be decoded, to an output of room bytes.
 fn check(
     params: TextureParams,
@@ -499,20 +554,20 @@ fn check(
 ) -> Status
     ensures { λ r. ⌜ statusOutcome r ≡ Steps.checked (params .0) len1 len2 palette room ⌝ }
 {
-    if lacks_palette(params, palette) {
+    let no_palette = lacks_palette(params, palette);
+    let format = params.format();
+    let no_data = lacks_data(params, len1, len2);
+    let no_room = lacks_room(params, room);
+    if no_palette {
         return Status::Refused(Refusal::NoPalette);
     }
-    let format = params.format();
     if format.0 == 0 {
         return Status::Refused(Refusal::NoTexels);
     }
-    if len1 < params.byte_len() {
+    if no_data {
         return Status::Refused(Refusal::ShortData);
     }
-    if len2 < params.byte_len2() {
-        return Status::Refused(Refusal::ShortData);
-    }
-    if room < 4 * num_texels(params) {
+    if no_room {
         return Status::Refused(Refusal::Output);
     }
     Status::Done
@@ -570,9 +625,10 @@ pub fn decode_texture(
 ) -> Counted
     ensures { λ r. ⌜ Writes (Pictures.decoded (Steps.sources (params .0) (now (data1 .entry)) (now (data2 .entry)) palette (now (pal .entry)))) (now (out .entry)) (countedOutcome r) (now (out .exit)) ⌝ }
 {
+    let len = 4 * num_texels(params);
     if let Status::Refused(refusal) = check(params, data1.len(), data2.len(), palette, out.len()) {
         return Counted::Refused(refusal);
     }
     decode_format(out, params, data1, data2, palette, pal);
-    Counted::Count(4 * num_texels(params))
+    Counted::Count(len)
 }

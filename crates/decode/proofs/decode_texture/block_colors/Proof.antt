@@ -7,7 +7,7 @@ use lib.ListN.{length}
 use Rattle.nitro.proofs.Outputs.{wrote-length}
 use Rattle.decode.specs.Texels.{modeColor, blockColor}
 use Rattle.decode.proofs.Quads.{Painting, paint-none, paint-more, painted-all}
-use Rattle.decode.proofs.Texels.{block-four}
+use Rattle.decode.proofs.Texels.{mode-same, block-four}
 use Rattle.decode.proofs.decode_texture.block_colors.Statement.{statement}
 use Rattle.decode.proofs.decode_texture.block_colors.Tie as tie
 
@@ -48,9 +48,8 @@ color : (c : tie.After-put-pixel Inv-loop μ-loop)
 unfolding blockColor
 color c =
     let a = c .before .before .before .before .before .before .before .args in
-    let first : bitAnd (a .extra) 16383 * 2 % 65536 ≡ 2 * (a .extra % 2 ^ 14) = omega (arith, and-mask (a .extra) 14) in
-    let mode : a .extra / 16384 % 4 ≡ a .extra / 16384 = omega arith in
-    c .before .mode-color .ensures ∙ rw (first, mode)
+    let first = and-mask (a .extra) 14 in
+    c .before .mode-color .ensures ∙ mode-same _ _ _ (omega arith) (omega arith)
 
 loop-again : tie.Need-loop-again Inv-loop μ-loop
 loop-again c =

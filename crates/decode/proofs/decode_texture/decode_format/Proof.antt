@@ -45,22 +45,22 @@ seven c = omega (arith, c .before .format .ensures, c .before .before .before .b
 decode-format1-requires : tie.Need-decode-format1-requires
 decode-format1-requires c κs =
     let f = c .before .before in
-    (room f, omega (arith, data-there f 1 (omega (arith, f .format .ensures)), eights (f .before .before .before .before .before .before .before .before .args .params .0) .texels, texel-count f))
+    (omega (arith, room f), omega (arith, data-there f 1 (omega (arith, f .format .ensures)), eights (f .before .before .before .before .before .before .before .before .args .params .0) .texels, texel-count f))
 
 decode-format2-requires : tie.Need-decode-format2-requires
 decode-format2-requires c κs =
     let f = c .before .before in
-    (room f, omega (arith, data-there f 2 (omega (arith, f .format .ensures)), eights (f .before .before .before .before .before .before .before .before .args .params .0) .texels, texel-count f))
+    (omega (arith, room f), omega (arith, data-there f 2 (omega (arith, f .format .ensures)), eights (f .before .before .before .before .before .before .before .before .args .params .0) .texels, texel-count f))
 
 decode-format3-requires : tie.Need-decode-format3-requires
 decode-format3-requires c κs =
     let f = c .before .before in
-    (room f, omega (arith, data-there f 3 (omega (arith, f .format .ensures)), eights (f .before .before .before .before .before .before .before .before .args .params .0) .texels, texel-count f))
+    (omega (arith, room f), omega (arith, data-there f 3 (omega (arith, f .format .ensures)), eights (f .before .before .before .before .before .before .before .before .args .params .0) .texels, texel-count f))
 
 decode-format4-requires : tie.Need-decode-format4-requires
 decode-format4-requires c κs =
     let f = c .before .before in
-    (room f, omega (arith, data-there f 4 (omega (arith, f .format .ensures)), eights (f .before .before .before .before .before .before .before .before .args .params .0) .texels, texel-count f))
+    (omega (arith, room f), omega (arith, data-there f 4 (omega (arith, f .format .ensures)), eights (f .before .before .before .before .before .before .before .before .args .params .0) .texels, texel-count f))
 
 width-requires : tie.Need-width-requires
 width-requires c κs = search needs
@@ -93,12 +93,12 @@ decode-format5-requires c κs =
 decode-format6-requires : tie.Need-decode-format6-requires
 decode-format6-requires c κs =
     let f = c .before .before in
-    (room f, omega (arith, data-there f 6 (omega (arith, f .format .ensures)), eights (f .before .before .before .before .before .before .before .before .args .params .0) .texels, texel-count f))
+    (omega (arith, room f), omega (arith, data-there f 6 (omega (arith, f .format .ensures)), eights (f .before .before .before .before .before .before .before .before .args .params .0) .texels, texel-count f))
 
 decode-format7-requires : tie.Need-decode-format7-requires
 decode-format7-requires c κs =
     let f = c .before .before in
-    (room f, omega (arith, data-there f 7 (seven (c .before)), eights (f .before .before .before .before .before .before .before .before .args .params .0) .texels, texel-count f))
+    (omega (arith, room f), omega (arith, data-there f 7 (seven (c .before)), eights (f .before .before .before .before .before .before .before .before .args .params .0) .texels, texel-count f))
 
 same-length : tie.Need-same-length
 same-length c = search needs
@@ -107,7 +107,7 @@ returns : tie.Need-returns
 returns c =
     let d = c .before .before in
     let f = d .before .before .before in
-    d .decode-format1 .ensures ∙ painted-same _ _ _ (λ i. rw (f .before .before .off-of .ensures) (texel1 (all f) i (omega (arith, f .format .ensures)))) (texel-count f)
+    d .decode-format1 .ensures ∙ painted-same _ _ _ (λ i. rw (f .before .before .off-of .ensures) (texel1 (all f) i (omega (arith, f .format .ensures)))) (omega (arith, texel-count f))
 
 same-length-2 : tie.Need-same-length-2
 same-length-2 c = search needs
@@ -116,7 +116,7 @@ returns-2 : tie.Need-returns-2
 returns-2 c =
     let d = c .before .before in
     let f = d .before .before .before in
-    d .decode-format2 .ensures ∙ painted-same _ _ _ (λ i. rw (f .before .before .off-of .ensures, f .before .is-color0-transparent .ensures) (texel2 (all f) i (omega (arith, f .format .ensures)))) (texel-count f)
+    d .decode-format2 .ensures ∙ painted-same _ _ _ (λ i. rw (f .before .before .off-of .ensures, f .before .is-color0-transparent .ensures) (texel2 (all f) i (omega (arith, f .format .ensures)))) (omega (arith, texel-count f))
 
 same-length-3 : tie.Need-same-length-3
 same-length-3 c = search needs
@@ -125,7 +125,7 @@ returns-3 : tie.Need-returns-3
 returns-3 c =
     let d = c .before .before in
     let f = d .before .before .before in
-    d .decode-format3 .ensures ∙ painted-same _ _ _ (λ i. rw (f .before .before .off-of .ensures, f .before .is-color0-transparent .ensures) (texel3 (all f) i (omega (arith, f .format .ensures)))) (texel-count f)
+    d .decode-format3 .ensures ∙ painted-same _ _ _ (λ i. rw (f .before .before .off-of .ensures, f .before .is-color0-transparent .ensures) (texel3 (all f) i (omega (arith, f .format .ensures)))) (omega (arith, texel-count f))
 
 same-length-4 : tie.Need-same-length-4
 same-length-4 c = search needs
@@ -134,7 +134,7 @@ returns-4 : tie.Need-returns-4
 returns-4 c =
     let d = c .before .before in
     let f = d .before .before .before in
-    d .decode-format4 .ensures ∙ painted-same _ _ _ (λ i. rw (f .before .before .off-of .ensures, f .before .is-color0-transparent .ensures) (texel4 (all f) i (omega (arith, f .format .ensures)))) (texel-count f)
+    d .decode-format4 .ensures ∙ painted-same _ _ _ (λ i. rw (f .before .before .off-of .ensures, f .before .is-color0-transparent .ensures) (texel4 (all f) i (omega (arith, f .format .ensures)))) (omega (arith, texel-count f))
 
 same-length-5 : tie.Need-same-length-5
 same-length-5 c = search needs
@@ -152,7 +152,7 @@ returns-6 : tie.Need-returns-6
 returns-6 c =
     let d = c .before .before in
     let f = d .before .before .before in
-    d .decode-format6 .ensures ∙ painted-same _ _ _ (λ i. rw (f .before .before .off-of .ensures) (texel6 (all f) i (omega (arith, f .format .ensures)))) (texel-count f)
+    d .decode-format6 .ensures ∙ painted-same _ _ _ (λ i. rw (f .before .before .off-of .ensures) (texel6 (all f) i (omega (arith, f .format .ensures)))) (omega (arith, texel-count f))
 
 same-length-7 : tie.Need-same-length-7
 same-length-7 c = search needs
@@ -161,7 +161,7 @@ returns-7 : tie.Need-returns-7
 returns-7 c =
     let d = c .before .before in
     let f = d .before .before .before in
-    d .decode-format7 .ensures ∙ painted-same _ _ _ (λ i. texel7 (all f) i (seven (d .before .before))) (texel-count f)
+    d .decode-format7 .ensures ∙ painted-same _ _ _ (λ i. texel7 (all f) i (seven (d .before .before))) (omega (arith, texel-count f))
 
 pub decode-format-spec : {M : Type 1} → statement M
 decode-format-spec =

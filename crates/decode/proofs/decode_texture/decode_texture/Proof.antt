@@ -1,6 +1,4 @@
 -- `decode::decode_texture::decode_texture` meets its contract: the checks decide, and then the texels are written. Assumes nothing.
-use mathlib.Core.Path.{_≡_, sym, _∙_}
-use native.Mathlib.Omega.{arith}
 use lib.ListN.{length}
 use denote.Ref.{now}
 use borrow.Author.Needs.{needs}
@@ -9,6 +7,12 @@ use Rattle.decode.proofs.Pictures.{Ready, ready-if, writes-declined, wr
 use Rattle.decode.proofs.decode_texture.decode_texture.Statement.{statement}
 use Rattle.decode.proofs.decode_texture.decode_texture.Tie as tie
 
+num-texels-requires : tie.Need-num-texels-requires
+num-texels-requires c κs = search needs
+
+mul-len : tie.Need-mul-len
+mul-len c = search needs
+
 check-requires : tie.Need-check-requires
 check-requires c κs = search needs
 
@@ -16,14 +20,14 @@ enum-known-refusal : tie.Need-enum-known-refusal
 enum-known-refusal c = search needs
 
 passed : (c : tie.After-enum-told)
-    → let a = c .before .before .before .before .before .before .before .args in
+    → let a = c .before .before .before .before .before .before .before .before .args in
     Ready (a .params .0) (length (now (a .data1))) (length (now (a .data2))) (a .palette) (length (now (a .out)))
 passed c = ready-if _ _ _ _ _ (rw (c .enum-told .given .1) at (c .before .before .check .ensures))
 
 returns : tie.Need-returns
 returns c =
     let m = c .before in
-    let a = m .before .before .before .before .before .before .before .args in
+    let a = m .before .before .before .before .before .before .before .before .args in
     writes-declined (sources (a .params .0) (now (a .data1)) (now (a .data2)) (a .palette) (now (a .pal))) (now (a .out)) (m .refusal .given .0 .0)
     (rw (m .refusal .given .1) at (m .before .before .check .ensures))
 
@@ -33,33 +37,28 @@ enum-told c = search needs
 decode-format-requires : tie.Need-decode-format-requires
 decode-format-requires c κs = passed (c .before) .decodable
 
-num-texels-requires : tie.Need-num-texels-requires
-num-texels-requires c κs = search needs
-
-mul-t10 : tie.Need-mul-t10
-mul-t10 c = search needs
-
 same-length : tie.Need-same-length
 same-length c = search needs
 
 returns-2 : tie.Need-returns-2
 returns-2 c =
-    let d = c .before .before .before in
+    let d = c .before .before in
     let t = d .before .before in
-    let a = t .before .before .before .before .before .before .before .args in
-    rw (c .num-texels .ensures .0, d .decode-format .ensures)
+    let k = t .before .before .before in
+    let a = k .before .before .before .before .before .args in
+    rw (k .num-texels .ensures .0, d .decode-format .ensures)
     (writes-decoded (sources (a .params .0) (now (a .data1)) (now (a .data2)) (a .palette) (now (a .pal))) (now (a .out)) (passed t .is) (passed t .decodable .room))
 
 pub decode-texture-spec : {M : Type 1} → statement M
 decode-texture-spec =
     tie.close
     (tie.spec
+    num-texels-requires
+    mul-len
     check-requires
     enum-known-refusal
     returns
     enum-told
     decode-format-requires
-    num-texels-requires
-    mul-t10
     same-length
     returns-2)

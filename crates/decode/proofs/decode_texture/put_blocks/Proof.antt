@@ -68,7 +68,7 @@ loop-again c =
       sized,
       blocks-more (l .loop .inv .1) (omega arith) _ (pb .put-block .ensures) (omega arith)
           (λ r m.
-          row-texels (a .width) (a .row) (l .loop .i) r (now (a .data1)) (now (a .data2)) (now (a .pal)) (a .off) m (omega arith)
+          row-texels (a .width) (a .row) (l .loop .i) r _ (now (a .data1)) (now (a .data2)) (now (a .pal)) (a .off) m (omega arith) (omega arith)
           (v .view-u16 .result) (l .loop .table) (v .view-u16 .ensures) (bc .block-colors .ensures) bytes (omega arith))
           (λ r m. length-rowBytes t _ (omega arith))
           kept,

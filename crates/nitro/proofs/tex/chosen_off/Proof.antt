@@ -20,7 +20,8 @@ off-at-requires : tie.Need-off-at-requires
 off-at-requires c κs =
     let k = c .before .before .before in
     let pre = k .before .before .before .pre in
-    (omega (arith, pre .0), ltb-true _ _ (rw (k .choice .given .1) at (pre .1)))
+    let below = ltb-true (k .choice .given .0 .0) (k .before .before .before .args .layout .palettes) (rw (k .choice .given .1) at (pre .1)) in
+    (omega (arith, pre .0), omega (arith, below))
 
 returns : tie.Need-returns
 returns c = search needs

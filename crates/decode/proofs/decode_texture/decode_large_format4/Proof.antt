@@ -1,4 +1,4 @@
--- `decode::decode_texture::decode_format4` meets its contract: texel after texel is copied from the table of the palette. Assumes nothing.
+-- `decode::decode_texture::decode_large_format4` meets its contract: texel after texel is copied from the table of the palette. Assumes nothing.
 use Prim.Native.Nat.{_+_, _-_, _*_, _≤_}
 use mathlib.Core.Path.{_≡_, _∙_}
 use native.Mathlib.Omega.{arith}
@@ -9,8 +9,8 @@ use Rattle.decode.proofs.Quads.{Painting, paint-none, paint-more, paint
 use Rattle.decode.specs.Texels.{formats2to4}
 use Rattle.decode.proofs.Tables.{Table, table-made, indexed-texel}
 use Rattle.decode.proofs.Texels.{texel-byte, formats2to4-four}
-use Rattle.decode.proofs.decode_texture.decode_format4.Statement.{statement}
-use Rattle.decode.proofs.decode_texture.decode_format4.Tie as tie
+use Rattle.decode.proofs.decode_texture.decode_large_format4.Statement.{statement}
+use Rattle.decode.proofs.decode_texture.decode_large_format4.Tie as tie
 
 abbrev Inv-loop : tie.InvT-loop
 Inv-loop out₀ num-texels data1 pal off clear0 table n₀ out n = (n ≤ num-texels) × Painting (formats2to4 8 clear0 data1 pal off) n out₀ out
@@ -86,8 +86,8 @@ returns c =
     let done : l .loop .n ≡ l .before .before .before .before .before .before .before .args .num-texels = omega arith in
     rw (← done) (painted-all _ _ (l .loop .inv .1))
 
-pub decode-format4-spec : {M : Type 1} → statement M
-decode-format4-spec =
+pub decode-large-format4-spec : {M : Type 1} → statement M
+decode-large-format4-spec =
     tie.close
     (tie.spec
     Inv-loop
