@@ -1,7 +1,7 @@
 -- The laws of direct decoding: when it is declined, the sizes of what is decoded, and the texels by format. Assumes nothing.
 use Prim.Native.Nat.{ℕ, _+_, _*_, _/_, _%_, _^_, _≤_, _<_}
-use mathlib.Core.Path.{_≡_, refl, sym, ap, _∙_, subst}
-use mathlib.Core.Bool.{Bool, true, false, cond, _||_}
+use mathlib.Core.Path.{_≡_, refl, sym, _∙_, subst}
+use mathlib.Core.Bool.{Bool, true, false, cond}
 use mathlib.Core.List.{List, _++_}
 use native.Mathlib.Nat.{mul-assoc, mul-comm}
 use native.Mathlib.Omega.{arith}
@@ -24,9 +24,10 @@ use Rattle.nitro.proofs.Runs.{refusal-not, refusal-any}
 use Rattle.nitro.proofs.Answers.{passed-on}
 use Rattle.nitro.proofs.Outputs.{writes-fits, writes-refusal, writes-short}
 use Rattle.decode.specs.Texels as Texels
-use Rattle.decode.specs.Pictures.{quads, painted, texelCount, pictureLength, offOf, texel, pictureBytes, lacksPalette, lacksData, ready, decoded, pictureOf}
-use Rattle.decode.specs.Steps.{Decodable, lacksRoom, checked, compressedTexel}
-use Rattle.decode.proofs.Quads.{Fours, length-quads, quads-same}
+use Rattle.decode.specs.Pictures.{quads, texelCount, pictureLength, offOf, texel, pictureBytes, lacksPalette, lacksData}
+use Rattle.decode.specs.Pictures.{ready, decoded, pictureOf}
+use Rattle.decode.specs.Steps.{painted, Decodable, lacksRoom, checked, compressedTexel}
+use Rattle.decode.proofs.Quads.{length-quads}
 use Rattle.decode.proofs.Texels.{format1-four, formats2to4-four, format5-four, format6-four, format7-four}
 
 -- a word's sizes: 8 times a number each
@@ -234,11 +235,6 @@ module _ (s : Sources) (n : ℕ) where
   pub texel7 : format (s .word) ≡ 7 → texel s n ≡ Texels.format7 (s .parts .data1) n
   unfolding texel
   texel7 e = rw e
-
--- outputs with the same texels
-pub painted-same : (f g : ℕ → List ℕ) {m n : ℕ} (out : List ℕ) → ((i : ℕ) → g i ≡ f i) → m ≡ n → painted f m out ≡ painted g n out
-unfolding painted
-painted-same f g {m} {n} out same e = rw (e, quads-same f g n (λ i l. sym (same i)))
 
 -- the lengths of the data, by format
 module _ (w : ℕ) where

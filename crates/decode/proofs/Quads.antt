@@ -1,8 +1,8 @@
 -- The laws of texels written one after another. Assumes nothing.
 use Prim.Native.Nat.{ℕ, zero, suc, _+_, _*_, _≤_, _<_}
-use mathlib.Core.Path.{_≡_, refl, sym, ap, _∙_, subst}
+use mathlib.Core.Path.{_≡_, refl, sym, _∙_, subst}
 use mathlib.Core.Bool.{Bool, true, false}
-use mathlib.Core.List.{List, [], _++_, append-nil, append-assoc}
+use mathlib.Core.List.{List, _++_, append-nil, append-assoc}
 use native.Mathlib.Numerals.{add-one}
 use native.Mathlib.Nat.{add-zero, add-suc}
 use native.Mathlib.Omega.{arith}
@@ -11,7 +11,8 @@ use lib.Seq.{sets, take-at, drop-at}
 use lib.Dec.{ltb}
 use borrow.Author.Tests.{ltb-true, ltb-false}
 use Rattle.nitro.proofs.Outputs.{Wrote, wrote-none, wrote-more}
-use Rattle.decode.specs.Pictures.{quads, painted}
+use Rattle.decode.specs.Pictures.{quads}
+use Rattle.decode.specs.Steps.{painted}
 
 -- texels of four bytes each
 abbrev pub Fours : (f : ℕ → List ℕ) (n : ℕ) → Type 0
@@ -78,3 +79,8 @@ painted-at f n k entry fours h = quad-at f n k (drop (4 * n) entry) fours h
 pub painted-room : (f : ℕ → List ℕ) (n : ℕ) (entry : List ℕ) → Fours f n → 4 * n ≤ length (painted f n entry)
 unfolding painted
 painted-room f n entry fours = rw length-append (omega (arith, length-quads f n fours))
+
+-- outputs with the same texels
+pub painted-same : (f g : ℕ → List ℕ) {m n : ℕ} (out : List ℕ) → ((i : ℕ) → g i ≡ f i) → m ≡ n → painted f m out ≡ painted g n out
+unfolding painted
+painted-same f g {m} {n} out same e = rw (e, quads-same f g n (λ i l. sym (same i)))

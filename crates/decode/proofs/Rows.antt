@@ -14,8 +14,8 @@ use Rattle.util.specs.Number.{numberAt}
 use Rattle.util.proofs.Numbers.{number-one, number-add}
 use Rattle.nitro.proofs.Outputs.{wrote-length, wrote-more, wrote-all}
 use Rattle.decode.specs.Texels.{blockColor, format5}
-use Rattle.decode.specs.Pictures.{quads, painted}
-use Rattle.decode.specs.Steps.{pixelAt, rowBytes, byteOf, rowOf, BlockPut, compressedTexel, rowsTexel}
+use Rattle.decode.specs.Pictures.{quads}
+use Rattle.decode.specs.Steps.{painted, pixelAt, rowBytes, byteOf, rowOf, BlockPut, compressedTexel, rowsTexel}
 use Rattle.decode.proofs.Quads.{Fours, length-quads, quads-same, quads-add, Painting, paint-none, painted-at}
 use Rattle.decode.proofs.Texels.{block-four}
 

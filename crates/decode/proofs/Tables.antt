@@ -1,17 +1,19 @@
 -- The laws of a palette written out as a table of texels, and of the texels that are taken from it. Assumes nothing.
-use Prim.Native.Nat.{ℕ, _+_, _*_, _/_, _%_, _^_, _≤_, _<_}
-use mathlib.Core.Path.{_≡_, refl, sym, ap, _∙_}
+use Prim.Native.Nat.{ℕ, _*_, _/_, _%_, _^_, _≤_, _<_}
+use mathlib.Core.Path.{_≡_, refl, sym}
 use mathlib.Core.Bool.{Bool, false}
 use mathlib.Core.List.{List}
-use native.Mathlib.Nat.{mod-lt}
+use native.Mathlib.Nat.{le-of-lt, lt-of-le-of-lt, mul-le-mul, mod-lt}
 use native.Mathlib.Omega.{arith}
-use lib.ListN.{length, take, drop, getD}
+use lib.ListN.{length, take, drop, getD, length-drop}
+use lib.Seq.{length-take-le}
+use lib.Dec.{lit<}
 use lib.Bits.{bitAnd, and-mask}
 use lib.Pow.{pow-pos}
 use Rattle.decode.specs.Texels.{pixel, paletteColor, texelBits, alpha3, format1, indexed, formats2to4, format6}
-use Rattle.decode.specs.Pictures.{painted}
-use Rattle.decode.specs.Steps.{withAlpha}
+use Rattle.decode.specs.Steps.{painted, withAlpha, indexedTexel, IndexThere, IndexedFits}
 use Rattle.decode.proofs.Quads.{Fours, painted-at, painted-room}
+use Rattle.decode.proofs.Rows.{row-below}
 use Rattle.decode.proofs.Texels.{indexed-four}
 
 pub texel-lt : (bits : ℕ) (texels : List ℕ) (n : ℕ) → texelBits bits texels n < 2 ^ bits
@@ -33,11 +35,28 @@ table-made clear0 pal p count before e =
     }
 
 -- formats 2 to 4: the texel is in the table
-pub indexed-texel : (bits : ℕ) (clear0 : Bool) (texels pal : List ℕ) (p n : ℕ) {table : List ℕ} {k : ℕ}
-    → Table clear0 pal p (2 ^ bits) table → k ≡ texelBits bits texels n
-    → take 4 (drop (4 * k) table) ≡ formats2to4 bits clear0 texels pal p n
-unfolding formats2to4
-indexed-texel bits clear0 texels pal p n t e = rw e (t .at (texelBits bits texels n) (texel-lt bits texels n))
+module _ (bits : ℕ) (texels table : List ℕ) (n : ℕ) where
+  pub indexed-texel : (clear0 : Bool) (pal : List ℕ) (p : ℕ) → Table clear0 pal p (2 ^ bits) table
+      → formats2to4 bits clear0 texels pal p n ≡ indexedTexel bits texels table n
+  unfolding formats2to4
+  indexed-texel clear0 pal p t = sym (t .at (texelBits bits texels n) (texel-lt bits texels n))
+
+  pub indexed-texel-four : 4 * 2 ^ bits ≤ length table → length (indexedTexel bits texels table n) ≡ 4
+  indexed-texel-four room =
+      let k = texelBits bits texels n in
+      length-take-le 4 (drop (4 * k) table) (simp length-drop (omega (arith, texel-lt bits texels n)))
+
+-- the place of such a texel in the data
+pub index-small : (n bits : ℕ) → n < 2 ^ 32 → bits ≤ 8 → n * bits < 2 ^ 64
+index-small n bits h k = lt-of-le-of-lt (mul-le-mul {n₂ = 2 ^ 32} {m₂ = 8} (le-of-lt h) k) (lit< tt)
+
+pub index-there : (bits count length1 output n : ℕ) → IndexedFits bits count length1 output → n < count → IndexThere bits n length1
+index-there bits count length1 output n f h = record {
+  some = f .some;
+  byte = f .byte;
+  small = omega arith;
+  there = omega (arith, row-below bits n count h);
+}
 
 -- formats 1 and 6: its colour is
 other-alpha : (color a : ℕ) → withAlpha (pixel color 31) a ≡ pixel color a

@@ -45,10 +45,10 @@ put-four l at p e =
     rw (one, two, three) (ap (sets l at) (four-bytes p e))
 
 -- a texel that a shift and a mask take out of its byte
-pub texel-bits : (bits : ℕ) (texels : List ℕ) (n at shift : ℕ) → at ≡ n * bits / 8 → shift ≡ n * bits % 8
-    → bitAnd (getD texels at 0 / 2 ^ shift) (2 ^ bits - 1) ≡ texelBits bits texels n
+pub texel-bits : (bits : ℕ) (texels : List ℕ) (n at shift mask : ℕ) → at ≡ n * bits / 8 → shift ≡ n * bits % 8 → mask ≡ 2 ^ bits - 1
+    → bitAnd (getD texels at 0 / 2 ^ shift) mask ≡ texelBits bits texels n
 unfolding texelBits
-texel-bits bits texels n at shift e f = rw (e, f, and-mask (getD texels (n * bits / 8) 0 / 2 ^ (n * bits % 8)) bits)
+texel-bits bits texels n at shift mask e f m = rw (e, f, m, and-mask (getD texels (n * bits / 8) 0 / 2 ^ (n * bits % 8)) bits)
 
 pub texel-byte : (texels : List ℕ) (n : ℕ) → getD texels n 0 < 256 → getD texels n 0 ≡ texelBits 8 texels n
 unfolding texelBits
@@ -60,7 +60,9 @@ texel-byte texels n h =
 -- a mix with its two colours exchanged
 mix-turned : (x y : List ℕ) → mix 3 5 x y ≡ mix 5 3 y x
 unfolding mix
-mix-turned x y = cc (turned (getD x 0 0) (getD y 0 0), turned (getD x 1 0) (getD y 1 0), turned (getD x 2 0) (getD y 2 0), turned (getD x 3 0) (getD y 3 0))
+mix-turned x y =
+    cc
+    (turned (getD x 0 0) (getD y 0 0), turned (getD x 1 0) (getD y 1 0), turned (getD x 2 0) (getD y 2 0), turned (getD x 3 0) (getD y 3 0))
   where
     turned : (a b : ℕ) → mixChannel 3 5 a b ≡ mixChannel 5 3 b a
     turned a b = omega arith

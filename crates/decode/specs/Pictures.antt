@@ -2,7 +2,7 @@
 use Prim.Native.Nat.{ℕ, zero, suc, _*_, _/_, _%_}
 use mathlib.Core.Bool.{Bool, false, cond, _||_}
 use mathlib.Core.List.{List, [], _++_}
-use lib.ListN.{length, drop}
+use lib.ListN.{length}
 use lib.Dec.{ltb, eqb}
 use Rattle.util.specs.Outcome.{Outcome, result, refusal, _>>=_}
 use Rattle.nds.specs.Params.{width, height, format, color0Transparent}
@@ -75,9 +75,3 @@ unfoldable pub pictureOf : (n : ℕ) → PaletteChoice → Answer Contents → O
 pictureOf n choice a = do
   sources ← sourcesOf n choice a
   decoded sources
-
--- What the functions between these hand on.
-
--- The first n texels written, and "the output beyond them keeps its content".
-unfoldable pub painted : (texel : ℕ → List ℕ) (n : ℕ) (output : List ℕ) → List ℕ
-painted texel n output = quads texel n ++ drop (4 * n) output

@@ -3,8 +3,8 @@
 use Prim.Native.Nat.{ℕ, _+_, _*_, _/_, _%_, _^_, _≤_, _<_}
 use mathlib.Core.Path.{_≡_}
 use mathlib.Core.Bool.{Bool, cond}
-use mathlib.Core.List.{List, [], _∷_}
-use lib.ListN.{length, take, drop, getD}
+use mathlib.Core.List.{List, [], _∷_, _++_}
+use lib.ListN.{take, drop, getD}
 use lib.Seq.{sets}
 use lib.Dec.{ltb}
 use Rattle.util.specs.Outcome.{Outcome, result, refusal, _>>=_}
@@ -12,13 +12,17 @@ use Rattle.nds.specs.Params.{format}
 use Rattle.nds.specs.Formats.{dataLength, secondLength}
 use Rattle.nitro.specs.Calls.{Sources}
 use Rattle.nitro.specs.declared.tex.PaletteOff.{PaletteOff}
-use Rattle.decode.specs.Texels.{widen, format5}
+use Rattle.decode.specs.Texels.{widen, texelBits, format5}
 use Rattle.decode.specs.Pictures.{quads, pictureLength, ready}
 
 -- The sources of a direct decoding.
 abbrev pub sources : (word : ℕ) (data1 data2 : List ℕ) → PaletteOff → (palBlock : List ℕ) → Sources
 sources word data1 data2 palette palBlock =
     record { word = word; parts = record { data1 = data1; data2 = data2 }; palette = palette; palBlock = palBlock }
+
+-- The first n texels written. 01, "Pixels": "the output beyond them keeps its content".
+unfoldable pub painted : (texel : ℕ → List ℕ) (n : ℕ) (output : List ℕ) → List ℕ
+painted texel n output = quads texel n ++ drop (4 * n) output
 
 -- Whether a texture can be decoded, to an output of `room` bytes. "output shorter than the result", 11.
 abbrev pub lacksRoom : (word room : ℕ) → Bool
@@ -33,10 +37,29 @@ checked w length1 length2 palette room = do
 abbrev pub withAlpha : (pixel : List ℕ) (a : ℕ) → List ℕ
 withAlpha pixel a = getD pixel 0 0 ∷ getD pixel 1 0 ∷ getD pixel 2 0 ∷ widen a ∷ []
 
--- Texel k of a row of texels, and the four texels that a byte chooses from it, its low bits first.
-abbrev pub pixelAt : (texels : List ℕ) (k : ℕ) → List ℕ
-pixelAt texels k = take 4 (drop (4 * k) texels)
+-- Texel k of a table.
+abbrev pub pixelAt : (table : List ℕ) (k : ℕ) → List ℕ
+pixelAt table k = take 4 (drop (4 * k) table)
 
+-- Texel n, where its colour index is taken from the data and the texel from the table.
+abbrev pub indexedTexel : (bits : ℕ) (data1 table : List ℕ) (n : ℕ) → List ℕ
+indexedTexel bits data1 table n = pixelAt table (texelBits bits data1 n)
+
+-- A texel of `bits` bits is there, and so are all, with room for them.
+pub record IndexThere (bits n length1 : ℕ) : Type 0 where
+  pub some : 0 < bits
+  pub byte : bits ≤ 8
+  pub small : n < 2 ^ 32
+  pub there : n * bits / 8 < length1
+
+pub record IndexedFits (bits count length1 output : ℕ) : Type 0 where
+  pub some : 0 < bits
+  pub byte : bits ≤ 8
+  pub small : count < 2 ^ 32
+  pub there : count * bits ≤ 8 * length1
+  pub room : 4 * count ≤ output
+
+-- The four texels that a byte chooses from a table, its low bits first.
 unfoldable pub rowBytes : (table : List ℕ) (row : ℕ) → List ℕ
 rowBytes table row = quads (λ c. pixelAt table (row / 2 ^ (2 * c) % 2 ^ 2)) 4
 

@@ -6,10 +6,9 @@ use nitro::errors::Status;
 use nitro::tex::PaletteOff;
 use util::view::view_u16;
 ghost use mathlib.Core.Path.{_≡_};
-ghost use Prim.Native.Nat.{_+_, _*_, _/_, _%_, _≤_, _<_, _^_};
+ghost use Prim.Native.Nat.{_+_, _*_, _≤_, _<_, _^_};
 ghost use lib.ListN.{length, take, drop};
 ghost use lib.Seq.{sets};
-ghost use Rattle.nds.specs.Params as Params;
 ghost use Rattle.nitro.specs.Refusal.{statusOutcome, countedOutcome};
 ghost use Rattle.nitro.specs.Output.{Writes};
 ghost use Rattle.decode.specs.Texels as Texels;
@@ -90,16 +89,16 @@ fn put_pixel(out: &mut [u8], n: usize, pixel: [u8; 4])
     out[at + 3] = pixel[3];
 }
 
-// Texel k of a row of texels.
-fn pixel_at(texels: &[u8], k: usize) -> [u8; 4]
-    requires { ⌜ 4 * k + 4 ≤ length (now texels) ⌝ }
-    ensures { λ r. ⌜ r ≡ take 4 (drop (4 * k) (now (texels .entry))) ⌝ }
+// Texel k of a table.
+fn pixel_at(table: &[u8], k: usize) -> [u8; 4]
+    requires { ⌜ 4 * k + 4 ≤ length (now table) ⌝ }
+    ensures { λ r. ⌜ r ≡ take 4 (drop (4 * k) (now (table .entry))) ⌝ }
 {
     let at = 4 * k;
-    [texels[at], texels[at + 1], texels[at + 2], texels[at + 3]]
+    [table[at], table[at + 1], table[at + 2], table[at + 3]]
 }
 
-// The alpha of a texel of formats 2 to 4 by its colour index.
+// The alpha of a texel of formats 2 to 4 by its colour index. Where clear0 is set, colour 0 is clear.
 fn index_alpha(i: u8, clear0: bool) -> u8
     ensures { λ r. ⌜ (r ≡ Texels.indexAlpha clear0 i) × (r < 32) ⌝ }
 {
@@ -121,7 +120,7 @@ fn indexed(pal: &[u8], off: u32, i: u8, clear0: bool) -> [u8; 4]
 // Writes the texels of the colour indices below count, in order.
 fn expand_palette(table: &mut [u8], count: usize, pal: &[u8], off: u32, clear0: bool)
     requires { ⌜ (4 * count ≤ length (now table)) × (count ≤ 256) ⌝ }
-    ensures { λ r. ⌜ now (table .exit) ≡ Pictures.painted (Texels.indexed clear0 (now (pal .entry)) off) count (now (table .entry)) ⌝ }
+    ensures { λ r. ⌜ now (table .exit) ≡ Steps.painted (Texels.indexed clear0 (now (pal .entry)) off) count (now (table .entry)) ⌝ }
 {
     let mut i: usize = 0;
     while i < count {
@@ -141,7 +140,7 @@ fn with_alpha(pixel: [u8; 4], a5: u8) -> [u8; 4]
 // A3I5 translucent texture: 3-bit alpha, 5-bit colour index.
 fn decode_format1(out: &mut [u8], num_texels: usize, data1: &[u8], pal: &[u8], off: u32)
     requires { ⌜ (4 * «num_texels» ≤ length (now out)) × («num_texels» ≤ length (now data1)) ⌝ }
-    ensures { λ r. ⌜ now (out .exit) ≡ Pictures.painted (Texels.format1 (now (data1 .entry)) (now (pal .entry)) off) «num_texels» (now (out .entry)) ⌝ }
+    ensures { λ r. ⌜ now (out .exit) ≡ Steps.painted (Texels.format1 (now (data1 .entry)) (now (pal .entry)) off) «num_texels» (now (out .entry)) ⌝ }
 {
     let mut table = [0u8; 128];
     expand_palette(&mut table, 32, pal, off, false);
@@ -154,20 +153,25 @@ fn decode_format1(out: &mut [u8], num_texels: usize, data1: &[u8], pal: &[u8], o
     }
 }
 
-// The colour index of texel n, where four texels share a byte.
-fn index2(data1: &[u8], n: usize) -> u8
-    requires { ⌜ n / 4 < length (now data1) ⌝ }
-    ensures { λ r. ⌜ r ≡ Texels.texelBits 2 (now (data1 .entry)) n ⌝ }
+// The colour index of texel n, where a texel has 2, 4 or 8 bits.
+fn index_at(data1: &[u8], bits: usize, n: usize) -> u8
+    requires { ⌜ Steps.IndexThere bits n (length (now data1)) ⌝ }
+    ensures { λ r. ⌜ r ≡ Texels.texelBits bits (now (data1 .entry)) n ⌝ }
 {
-    (data1[n >> 2] >> (2 * (n & 3))) & 3
+    let at = n * bits;
+    (data1[at >> 3] >> (at & 7)) & (u8::MAX >> (8 - bits))
 }
 
-// The colour index of texel n, where two texels share a byte.
-fn index3(data1: &[u8], n: usize) -> u8
-    requires { ⌜ n / 2 < length (now data1) ⌝ }
-    ensures { λ r. ⌜ r ≡ Texels.texelBits 4 (now (data1 .entry)) n ⌝ }
+// Writes the texels whose colour indices the data has, each a copy of the table's.
+fn put_indexed(out: &mut [u8], num_texels: usize, data1: &[u8], bits: usize, table: &[u8])
+    requires { ⌜ Steps.IndexedFits bits «num_texels» (length (now data1)) (length (now out)) × (4 * 2 ^ bits ≤ length (now table)) ⌝ }
+    ensures { λ r. ⌜ now (out .exit) ≡ Steps.painted (Steps.indexedTexel bits (now (data1 .entry)) (now (table .entry))) «num_texels» (now (out .entry)) ⌝ }
 {
-    (data1[n >> 1] >> (4 * (n & 1))) & 15
+    let mut n: usize = 0;
+    while n < num_texels {
+        put_pixel(out, n, pixel_at(table, index_at(data1, bits, n) as usize));
+        n += 1;
+    }
 }
 
 // 4-colour palette texture.
@@ -179,16 +183,12 @@ fn decode_format2(
     off: u32,
     clear0: bool,
 )
-    requires { ⌜ (4 * «num_texels» ≤ length (now out)) × («num_texels» ≤ 4 * length (now data1)) ⌝ }
-    ensures { λ r. ⌜ now (out .exit) ≡ Pictures.painted (Texels.formats2to4 2 clear0 (now (data1 .entry)) (now (pal .entry)) off) «num_texels» (now (out .entry)) ⌝ }
+    requires { ⌜ Steps.IndexedFits 2 «num_texels» (length (now data1)) (length (now out)) ⌝ }
+    ensures { λ r. ⌜ now (out .exit) ≡ Steps.painted (Texels.formats2to4 2 clear0 (now (data1 .entry)) (now (pal .entry)) off) «num_texels» (now (out .entry)) ⌝ }
 {
     let mut table = [0u8; 16];
     expand_palette(&mut table, 4, pal, off, clear0);
-    let mut n: usize = 0;
-    while n < num_texels {
-        put_pixel(out, n, pixel_at(&table, index2(data1, n) as usize));
-        n += 1;
-    }
+    put_indexed(out, num_texels, data1, 2, &table);
 }
 
 // 16-colour palette texture.
@@ -200,16 +200,12 @@ fn decode_format3(
     off: u32,
     clear0: bool,
 )
-    requires { ⌜ (4 * «num_texels» ≤ length (now out)) × («num_texels» ≤ 2 * length (now data1)) ⌝ }
-    ensures { λ r. ⌜ now (out .exit) ≡ Pictures.painted (Texels.formats2to4 4 clear0 (now (data1 .entry)) (now (pal .entry)) off) «num_texels» (now (out .entry)) ⌝ }
+    requires { ⌜ Steps.IndexedFits 4 «num_texels» (length (now data1)) (length (now out)) ⌝ }
+    ensures { λ r. ⌜ now (out .exit) ≡ Steps.painted (Texels.formats2to4 4 clear0 (now (data1 .entry)) (now (pal .entry)) off) «num_texels» (now (out .entry)) ⌝ }
 {
     let mut table = [0u8; 64];
     expand_palette(&mut table, 16, pal, off, clear0);
-    let mut n: usize = 0;
-    while n < num_texels {
-        put_pixel(out, n, pixel_at(&table, index3(data1, n) as usize));
-        n += 1;
-    }
+    put_indexed(out, num_texels, data1, 4, &table);
 }
 
 // 256-colour palette texture, each texel by itself.
@@ -221,8 +217,8 @@ fn decode_small_format4(
     off: u32,
     clear0: bool,
 )
-    requires { ⌜ (4 * «num_texels» ≤ length (now out)) × («num_texels» ≤ length (now data1)) ⌝ }
-    ensures { λ r. ⌜ now (out .exit) ≡ Pictures.painted (Texels.formats2to4 8 clear0 (now (data1 .entry)) (now (pal .entry)) off) «num_texels» (now (out .entry)) ⌝ }
+    requires { ⌜ Steps.IndexedFits 8 «num_texels» (length (now data1)) (length (now out)) ⌝ }
+    ensures { λ r. ⌜ now (out .exit) ≡ Steps.painted (Texels.formats2to4 8 clear0 (now (data1 .entry)) (now (pal .entry)) off) «num_texels» (now (out .entry)) ⌝ }
 {
     let mut n: usize = 0;
     while n < num_texels {
@@ -240,16 +236,12 @@ fn decode_large_format4(
     off: u32,
     clear0: bool,
 )
-    requires { ⌜ (4 * «num_texels» ≤ length (now out)) × («num_texels» ≤ length (now data1)) ⌝ }
-    ensures { λ r. ⌜ now (out .exit) ≡ Pictures.painted (Texels.formats2to4 8 clear0 (now (data1 .entry)) (now (pal .entry)) off) «num_texels» (now (out .entry)) ⌝ }
+    requires { ⌜ Steps.IndexedFits 8 «num_texels» (length (now data1)) (length (now out)) ⌝ }
+    ensures { λ r. ⌜ now (out .exit) ≡ Steps.painted (Texels.formats2to4 8 clear0 (now (data1 .entry)) (now (pal .entry)) off) «num_texels» (now (out .entry)) ⌝ }
 {
     let mut table = [0u8; 1024];
     expand_palette(&mut table, 256, pal, off, clear0);
-    let mut n: usize = 0;
-    while n < num_texels {
-        put_pixel(out, n, pixel_at(&table, data1[n] as usize));
-        n += 1;
-    }
+    put_indexed(out, num_texels, data1, 8, &table);
 }
 
 // 256-colour palette texture. The table is worth its making where there are more texels than colours.
@@ -261,8 +253,8 @@ fn decode_format4(
     off: u32,
     clear0: bool,
 )
-    requires { ⌜ (4 * «num_texels» ≤ length (now out)) × («num_texels» ≤ length (now data1)) ⌝ }
-    ensures { λ r. ⌜ now (out .exit) ≡ Pictures.painted (Texels.formats2to4 8 clear0 (now (data1 .entry)) (now (pal .entry)) off) «num_texels» (now (out .entry)) ⌝ }
+    requires { ⌜ Steps.IndexedFits 8 «num_texels» (length (now data1)) (length (now out)) ⌝ }
+    ensures { λ r. ⌜ now (out .exit) ≡ Steps.painted (Texels.formats2to4 8 clear0 (now (data1 .entry)) (now (pal .entry)) off) «num_texels» (now (out .entry)) ⌝ }
 {
     if num_texels < 512 {
         decode_small_format4(out, num_texels, data1, pal, off, clear0)
@@ -389,7 +381,7 @@ fn mode_color(pal: &[u8], off: u32, first: u16, mode: u8, texel: u8) -> [u8; 4]
 // Writes the four texels that a block's texels are chosen from.
 fn block_colors(table: &mut [u8], pal: &[u8], off: u32, extra: u16)
     requires { ⌜ 16 ≤ length (now table) ⌝ }
-    ensures { λ r. ⌜ now (table .exit) ≡ Pictures.painted (Texels.blockColor (now (pal .entry)) off extra) 4 (now (table .entry)) ⌝ }
+    ensures { λ r. ⌜ now (table .exit) ≡ Steps.painted (Texels.blockColor (now (pal .entry)) off extra) 4 (now (table .entry)) ⌝ }
 {
     let first = (extra & 0x3fff) << 1;
     let mode = (extra >> 14) as u8;
@@ -434,7 +426,7 @@ fn put_blocks(
     off: u32,
 )
     requires { ⌜ Steps.BlocksFit width row (length (now data1)) (length (now data2)) (length (now out)) ⌝ }
-    ensures { λ r. ⌜ now (out .exit) ≡ Pictures.painted (Steps.rowsTexel width (now (data1 .entry)) (now (data2 .entry)) (now (pal .entry)) off row) (4 * width) (now (out .entry)) ⌝ }
+    ensures { λ r. ⌜ now (out .exit) ≡ Steps.painted (Steps.rowsTexel width (now (data1 .entry)) (now (data2 .entry)) (now (pal .entry)) off row) (4 * width) (now (out .entry)) ⌝ }
 {
     let num_blocks_x = width / 4;
     let mut table = [0u8; 16];
@@ -458,7 +450,7 @@ fn decode_format5(
     off: u32,
 )
     requires { ⌜ Steps.PictureFits width height (length (now data1)) (length (now data2)) (length (now out)) ⌝ }
-    ensures { λ r. ⌜ now (out .exit) ≡ Pictures.painted (Steps.compressedTexel width (now (data1 .entry)) (now (data2 .entry)) (now (pal .entry)) off) (width * height) (now (out .entry)) ⌝ }
+    ensures { λ r. ⌜ now (out .exit) ≡ Steps.painted (Steps.compressedTexel width (now (data1 .entry)) (now (data2 .entry)) (now (pal .entry)) off) (width * height) (now (out .entry)) ⌝ }
 {
     let num_blocks_y = height / 4;
     let mut i: usize = 0;
@@ -472,7 +464,7 @@ fn decode_format5(
 // A5I3 translucent texture: 5-bit alpha, 3-bit colour index.
 fn decode_format6(out: &mut [u8], num_texels: usize, data1: &[u8], pal: &[u8], off: u32)
     requires { ⌜ (4 * «num_texels» ≤ length (now out)) × («num_texels» ≤ length (now data1)) ⌝ }
-    ensures { λ r. ⌜ now (out .exit) ≡ Pictures.painted (Texels.format6 (now (data1 .entry)) (now (pal .entry)) off) «num_texels» (now (out .entry)) ⌝ }
+    ensures { λ r. ⌜ now (out .exit) ≡ Steps.painted (Texels.format6 (now (data1 .entry)) (now (pal .entry)) off) «num_texels» (now (out .entry)) ⌝ }
 {
     let mut table = [0u8; 32];
     expand_palette(&mut table, 8, pal, off, false);
@@ -500,7 +492,7 @@ fn direct(rgb555: u16) -> [u8; 4]
 // Direct colour texture: 16-bit colours, no palette.
 fn decode_format7(out: &mut [u8], num_texels: usize, data1: &[u8])
     requires { ⌜ (4 * «num_texels» ≤ length (now out)) × (2 * «num_texels» ≤ length (now data1)) ⌝ }
-    ensures { λ r. ⌜ now (out .exit) ≡ Pictures.painted (Texels.format7 (now (data1 .entry))) «num_texels» (now (out .entry)) ⌝ }
+    ensures { λ r. ⌜ now (out .exit) ≡ Steps.painted (Texels.format7 (now (data1 .entry))) «num_texels» (now (out .entry)) ⌝ }
 {
     let mut n: usize = 0;
     while n < num_texels {
@@ -593,7 +585,7 @@ fn decode_format(
     pal: &[u8],
 )
     requires { ⌜ Steps.Decodable (params .0) (length (now data1)) (length (now data2)) (length (now out)) ⌝ }
-    ensures { λ r. ⌜ now (out .exit) ≡ Pictures.painted (Pictures.texel (Steps.sources (params .0) (now (data1 .entry)) (now (data2 .entry)) palette (now (pal .entry)))) (Pictures.texelCount (params .0)) (now (out .entry)) ⌝ }
+    ensures { λ r. ⌜ now (out .exit) ≡ Steps.painted (Pictures.texel (Steps.sources (params .0) (now (data1 .entry)) (now (data2 .entry)) palette (now (pal .entry)))) (Pictures.texelCount (params .0)) (now (out .entry)) ⌝ }
 {
     let n = num_texels(params);
     let off = off_of(palette);

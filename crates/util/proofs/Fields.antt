@@ -8,7 +8,7 @@ use borrow.Author.Tests.{lt-ltb, le-ltb, le-leb, lt-leb}
 use Rattle.util.specs.Bits.{bitField}
 
 -- all `width` bits set, shifted right until n are left
-ones-shifted : (width n : ℕ) → n ≤ width → (2 ^ width - 1) / 2 ^ (width - n) ≡ 2 ^ n - 1
+pub ones-shifted : (width n : ℕ) → n ≤ width → (2 ^ width - 1) / 2 ^ (width - n) ≡ 2 ^ n - 1
 ones-shifted width n h =
     ap (λ (k : ℕ). (2 ^ k - 1) / 2 ^ (width - n)) (omega arith)
     ∙ (ap (λ (x : ℕ). x / 2 ^ (width - n)) (ones-split n (width - n)) ∙ high (2 ^ n - 1) (width - n) (ones-lt (width - n)))

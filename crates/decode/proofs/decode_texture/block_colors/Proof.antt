@@ -1,11 +1,10 @@
 -- `decode::decode_texture::block_colors` meets its contract: the loop writes texel after texel. Assumes nothing.
-use Prim.Native.Nat.{_+_, _-_, _*_, _/_, _%_, _^_, _≤_}
-use mathlib.Core.Path.{_≡_, sym, _∙_}
+use Prim.Native.Nat.{_-_, _≤_}
+use mathlib.Core.Path.{_≡_, _∙_}
 use native.Mathlib.Omega.{arith}
-use lib.Bits.{bitAnd, and-mask}
-use lib.ListN.{length}
+use lib.Bits.{and-mask}
 use Rattle.nitro.proofs.Outputs.{wrote-length}
-use Rattle.decode.specs.Texels.{modeColor, blockColor}
+use Rattle.decode.specs.Texels.{blockColor}
 use Rattle.decode.proofs.Quads.{Painting, paint-none, paint-more, painted-all}
 use Rattle.decode.proofs.Texels.{mode-same, block-four}
 use Rattle.decode.proofs.decode_texture.block_colors.Statement.{statement}

@@ -21,42 +21,51 @@ lacks-data-requires c κs = search needs
 lacks-room-requires : tie.Need-lacks-room-requires
 lacks-room-requires c κs = search needs
 
-chosen : (c : tie.Else1) → let a = c .before .before .before .before .before .args in lacksPalette (a .params .0) (a .palette) ≡ false
+-- where the function begins
+abbrev start : tie.After-lacks-room → tie.Start
+start c = c .before .before .before .before
+
+chosen : (c : tie.Else1) → let a = start (c .before) .args in lacksPalette (a .params .0) (a .palette) ≡ false
 chosen c = sym (c .before .before .before .before .lacks-palette .ensures) ∙ c .if1 .left
 
-some : (c : tie.Else2) → format (c .before .before .before .before .before .before .before .args .params .0) ≡ 0 → ⊥
+some : (c : tie.Else2) → format (start (c .before .before .before) .args .params .0) ≡ 0 → ⊥
 some c e = c .if2 .left (c .before .before .before .before .before .format .ensures ∙ e)
 
-there : (c : tie.Else3) → let a = c .before .before .before .before .before .before .before .before .args in lacksData (a .params .0) (a .len1) (a .len2) ≡ false
+there : (c : tie.Else3) → let a = start (c .before .before .before .before) .args in lacksData (a .params .0) (a .len1) (a .len2) ≡ false
 there c = sym (c .before .before .before .before .before .lacks-data .ensures) ∙ c .if3 .left
 
 returns : tie.Need-returns
 returns c =
-    let a = c .before .before .before .before .before .args in
-    no-palette (a .params .0) (a .len1) (a .len2) (a .palette) (a .room) (sym (c .before .before .before .before .lacks-palette .ensures) ∙ c .if1 .taken)
+    let a = start (c .before) .args in
+    no-palette (a .params .0) (a .len1) (a .len2) (a .palette) (a .room)
+    (sym (c .before .before .before .before .lacks-palette .ensures) ∙ c .if1 .taken)
 
 returns-2 : tie.Need-returns-2
 returns-2 c =
-    let a = c .before .before .before .before .before .before .before .args in
-    no-texels (a .params .0) (a .len1) (a .len2) (a .palette) (a .room) (chosen (c .before .before)) (omega (arith, c .before .before .before .before .before .format .ensures))
+    let a = start (c .before .before .before) .args in
+    no-texels (a .params .0) (a .len1) (a .len2) (a .palette) (a .room)
+    (chosen (c .before .before)) (omega (arith, c .before .before .before .before .before .format .ensures))
 
 returns-3 : tie.Need-returns-3
 returns-3 c =
-    let a = c .before .before .before .before .before .before .before .before .args in
+    let a = start (c .before .before .before .before) .args in
     let known = c .before in
-    no-data (a .params .0) (a .len1) (a .len2) (a .palette) (a .room) (chosen (known .before .before)) (some known) (sym (known .before .before .before .before .lacks-data .ensures) ∙ c .if3 .taken)
+    no-data (a .params .0) (a .len1) (a .len2) (a .palette) (a .room)
+    (chosen (known .before .before)) (some known) (sym (known .before .before .before .before .lacks-data .ensures) ∙ c .if3 .taken)
 
 returns-4 : tie.Need-returns-4
 returns-4 c =
-    let a = c .before .before .before .before .before .before .before .before .before .args in
+    let a = start (c .before .before .before .before .before) .args in
     let known = c .before .before in
-    no-room (a .params .0) (a .len1) (a .len2) (a .palette) (a .room) (chosen (known .before .before)) (some known) (there (c .before)) (sym (known .before .before .before .lacks-room .ensures) ∙ c .if4 .taken)
+    no-room (a .params .0) (a .len1) (a .len2) (a .palette) (a .room)
+    (chosen (known .before .before)) (some known) (there (c .before)) (sym (known .before .before .before .lacks-room .ensures) ∙ c .if4 .taken)
 
 returns-5 : tie.Need-returns-5
 returns-5 c =
-    let a = c .before .before .before .before .before .before .before .before .before .args in
+    let a = start (c .before .before .before .before .before) .args in
     let known = c .before .before in
-    all-there (a .params .0) (a .len1) (a .len2) (a .palette) (a .room) (chosen (known .before .before)) (some known) (there (c .before)) (sym (known .before .before .before .lacks-room .ensures) ∙ c .if4 .left)
+    all-there (a .params .0) (a .len1) (a .len2) (a .palette) (a .room)
+    (chosen (known .before .before)) (some known) (there (c .before)) (sym (known .before .before .before .lacks-room .ensures) ∙ c .if4 .left)
 
 pub check-spec : {M : Type 1} → statement M
 check-spec =

@@ -1,6 +1,6 @@
 -- `decode::decode_texture::decode_format` meets its contract: the texels are those of the format. Assumes nothing.
 use Prim.Native.Nat.{ℕ, _*_, _/_, _≤_}
-use mathlib.Core.Path.{_≡_, _∙_}
+use mathlib.Core.Path.{_≡_, sym, _∙_, subst}
 use native.Mathlib.Omega.{arith}
 use lib.ListN.{length}
 use denote.Ref.{now}
@@ -10,7 +10,8 @@ use Rattle.nds.specs.Formats.{bitsPerTexel}
 use Rattle.nitro.specs.Calls.{Sources}
 use Rattle.decode.specs.Pictures.{texelCount}
 use Rattle.decode.specs.Steps.{sources}
-use Rattle.decode.proofs.Pictures.{eights, length-by, second-by, painted-same, texel1, texel2, texel3, texel4, texel5, texel6, texel7}
+use Rattle.decode.proofs.Pictures.{eights, length-by, second-by, texel1, texel2, texel3, texel4, texel5, texel6, texel7}
+use Rattle.decode.proofs.Quads.{painted-same}
 use Rattle.decode.proofs.decode_texture.decode_format.Statement.{statement}
 use Rattle.decode.proofs.decode_texture.decode_format.Tie as tie
 
@@ -26,41 +27,72 @@ is-color0-transparent-requires c κs = search needs
 format-requires : tie.Need-format-requires
 format-requires c κs = search needs
 
-abbrev all : tie.After-format → Sources
-all c = let a = c .before .before .before .before .before .before .before .before .args in sources (a .params .0) (now (a .data1)) (now (a .data2)) (a .palette) (now (a .pal))
+-- where the function begins
+abbrev start : tie.After-format → tie.Start
+start c = c .before .before .before .before .before .before .before .before
 
-texel-count : (c : tie.After-format) → c .before .before .before .num-texels .result ≡ texelCount (c .before .before .before .before .before .before .before .before .args .params .0)
+abbrev all : tie.After-format → Sources
+all c = let a = start c .args in sources (a .params .0) (now (a .data1)) (now (a .data2)) (a .palette) (now (a .pal))
+
+texel-count : (c : tie.After-format) → c .before .before .before .num-texels .result ≡ texelCount (start c .args .params .0)
 texel-count c = c .before .before .before .num-texels .ensures .0
 
-room : (c : tie.After-format) → 4 * c .before .before .before .num-texels .result ≤ length (now (c .before .before .before .before .before .before .before .before .args .out))
-room c = omega (arith, texel-count c, c .before .before .before .before .before .before .before .before .pre .room)
+room : (c : tie.After-format) → 4 * c .before .before .before .num-texels .result ≤ length (now (start c .args .out))
+room c = omega (arith, texel-count c, start c .pre .room)
 
-data-there : (c : tie.After-format) (f : ℕ) → format (c .before .before .before .before .before .before .before .before .args .params .0) ≡ f
-    → c .before .before .before .num-texels .result * bitsPerTexel f / 8 ≤ length (now (c .before .before .before .before .before .before .before .before .args .data1))
-data-there c f e = rw (texel-count c, ← length-by (c .before .before .before .before .before .before .before .before .args .params .0) e) (c .before .before .before .before .before .before .before .before .pre .data1)
+data-there : (c : tie.After-format) (f : ℕ) → format (start c .args .params .0) ≡ f
+    → c .before .before .before .num-texels .result * bitsPerTexel f / 8 ≤ length (now (start c .args .data1))
+data-there c f e =
+    let there = subst (λ k. k ≤ length (now (start c .args .data1))) (length-by (start c .args .params .0) e) (start c .pre .data1) in
+    subst (λ k. k * bitsPerTexel f / 8 ≤ length (now (start c .args .data1))) (sym (texel-count c)) there
 
-seven : (c : tie.At-match-rest) → format (c .before .before .before .before .before .before .before .before .before .args .params .0) ≡ 7
-seven c = omega (arith, c .before .format .ensures, c .before .before .before .before .before .before .before .before .before .pre .some)
+seven : (c : tie.At-match-rest) → format (start (c .before) .args .params .0) ≡ 7
+seven c = omega (arith, c .before .format .ensures, start (c .before) .pre .some)
 
 decode-format1-requires : tie.Need-decode-format1-requires
 decode-format1-requires c κs =
     let f = c .before .before in
-    (omega (arith, room f), omega (arith, data-there f 1 (omega (arith, f .format .ensures)), eights (f .before .before .before .before .before .before .before .before .args .params .0) .texels, texel-count f))
+    let there = data-there f 1 (omega (arith, f .format .ensures)) in
+    (omega (arith, room f), omega (arith, eights (start f .args .params .0) .texels, texel-count f))
 
 decode-format2-requires : tie.Need-decode-format2-requires
 decode-format2-requires c κs =
     let f = c .before .before in
-    (omega (arith, room f), omega (arith, data-there f 2 (omega (arith, f .format .ensures)), eights (f .before .before .before .before .before .before .before .before .args .params .0) .texels, texel-count f))
+    let w = start f .args .params .0 in
+    let is : format w ≡ 2 = omega (arith, f .format .ensures) in
+    record {
+      some = omega arith;
+      byte = omega arith;
+      small = omega (arith, f .before .before .before .num-texels .ensures .1);
+      there = omega (arith, data-there f 2 is, eights w .texels, texel-count f);
+      room = omega (arith, room f);
+    }
 
 decode-format3-requires : tie.Need-decode-format3-requires
 decode-format3-requires c κs =
     let f = c .before .before in
-    (omega (arith, room f), omega (arith, data-there f 3 (omega (arith, f .format .ensures)), eights (f .before .before .before .before .before .before .before .before .args .params .0) .texels, texel-count f))
+    let w = start f .args .params .0 in
+    let is : format w ≡ 3 = omega (arith, f .format .ensures) in
+    record {
+      some = omega arith;
+      byte = omega arith;
+      small = omega (arith, f .before .before .before .num-texels .ensures .1);
+      there = omega (arith, data-there f 3 is, eights w .texels, texel-count f);
+      room = omega (arith, room f);
+    }
 
 decode-format4-requires : tie.Need-decode-format4-requires
 decode-format4-requires c κs =
     let f = c .before .before in
-    (omega (arith, room f), omega (arith, data-there f 4 (omega (arith, f .format .ensures)), eights (f .before .before .before .before .before .before .before .before .args .params .0) .texels, texel-count f))
+    let w = start f .args .params .0 in
+    let is : format w ≡ 4 = omega (arith, f .format .ensures) in
+    record {
+      some = omega arith;
+      byte = omega arith;
+      small = omega (arith, f .before .before .before .num-texels .ensures .1);
+      there = omega (arith, data-there f 4 is, eights w .texels, texel-count f);
+      room = omega (arith, room f);
+    }
 
 width-requires : tie.Need-width-requires
 width-requires c κs = search needs
@@ -77,7 +109,7 @@ cast-height c = search needs
 decode-format5-requires : tie.Need-decode-format5-requires
 decode-format5-requires c κs =
     let f = c .before .before .before .before in
-    let w = f .before .before .before .before .before .before .before .before .args .params .0 in
+    let w = start f .args .params .0 in
     let is : format w ≡ 5 = omega (arith, f .format .ensures) in
     let e = eights w in
     rw (c .before .before .width .ensures, c .before .height .ensures)
@@ -93,12 +125,14 @@ decode-format5-requires c κs =
 decode-format6-requires : tie.Need-decode-format6-requires
 decode-format6-requires c κs =
     let f = c .before .before in
-    (omega (arith, room f), omega (arith, data-there f 6 (omega (arith, f .format .ensures)), eights (f .before .before .before .before .before .before .before .before .args .params .0) .texels, texel-count f))
+    let there = data-there f 6 (omega (arith, f .format .ensures)) in
+    (omega (arith, room f), omega (arith, eights (start f .args .params .0) .texels, texel-count f))
 
 decode-format7-requires : tie.Need-decode-format7-requires
 decode-format7-requires c κs =
     let f = c .before .before in
-    (omega (arith, room f), omega (arith, data-there f 7 (seven (c .before)), eights (f .before .before .before .before .before .before .before .before .args .params .0) .texels, texel-count f))
+    let there = data-there f 7 (seven (c .before)) in
+    (omega (arith, room f), omega (arith, eights (start f .args .params .0) .texels, texel-count f))
 
 same-length : tie.Need-same-length
 same-length c = search needs
@@ -107,7 +141,10 @@ returns : tie.Need-returns
 returns c =
     let d = c .before .before in
     let f = d .before .before .before in
-    d .decode-format1 .ensures ∙ painted-same _ _ _ (λ i. rw (f .before .before .off-of .ensures) (texel1 (all f) i (omega (arith, f .format .ensures)))) (omega (arith, texel-count f))
+    d .decode-format1 .ensures
+    ∙ painted-same _ _ _
+    (λ i. rw (f .before .before .off-of .ensures) (texel1 (all f) i (omega (arith, f .format .ensures))))
+    (omega (arith, texel-count f))
 
 same-length-2 : tie.Need-same-length-2
 same-length-2 c = search needs
@@ -116,7 +153,10 @@ returns-2 : tie.Need-returns-2
 returns-2 c =
     let d = c .before .before in
     let f = d .before .before .before in
-    d .decode-format2 .ensures ∙ painted-same _ _ _ (λ i. rw (f .before .before .off-of .ensures, f .before .is-color0-transparent .ensures) (texel2 (all f) i (omega (arith, f .format .ensures)))) (omega (arith, texel-count f))
+    d .decode-format2 .ensures
+    ∙ painted-same _ _ _
+    (λ i. rw (f .before .before .off-of .ensures, f .before .is-color0-transparent .ensures) (texel2 (all f) i (omega (arith, f .format .ensures))))
+    (omega (arith, texel-count f))
 
 same-length-3 : tie.Need-same-length-3
 same-length-3 c = search needs
@@ -125,7 +165,10 @@ returns-3 : tie.Need-returns-3
 returns-3 c =
     let d = c .before .before in
     let f = d .before .before .before in
-    d .decode-format3 .ensures ∙ painted-same _ _ _ (λ i. rw (f .before .before .off-of .ensures, f .before .is-color0-transparent .ensures) (texel3 (all f) i (omega (arith, f .format .ensures)))) (omega (arith, texel-count f))
+    d .decode-format3 .ensures
+    ∙ painted-same _ _ _
+    (λ i. rw (f .before .before .off-of .ensures, f .before .is-color0-transparent .ensures) (texel3 (all f) i (omega (arith, f .format .ensures))))
+    (omega (arith, texel-count f))
 
 same-length-4 : tie.Need-same-length-4
 same-length-4 c = search needs
@@ -134,7 +177,10 @@ returns-4 : tie.Need-returns-4
 returns-4 c =
     let d = c .before .before in
     let f = d .before .before .before in
-    d .decode-format4 .ensures ∙ painted-same _ _ _ (λ i. rw (f .before .before .off-of .ensures, f .before .is-color0-transparent .ensures) (texel4 (all f) i (omega (arith, f .format .ensures)))) (omega (arith, texel-count f))
+    d .decode-format4 .ensures
+    ∙ painted-same _ _ _
+    (λ i. rw (f .before .before .off-of .ensures, f .before .is-color0-transparent .ensures) (texel4 (all f) i (omega (arith, f .format .ensures))))
+    (omega (arith, texel-count f))
 
 same-length-5 : tie.Need-same-length-5
 same-length-5 c = search needs
@@ -143,7 +189,10 @@ returns-5 : tie.Need-returns-5
 returns-5 c =
     let d = c .before .before in
     let f = d .before .before .before .before .before in
-    d .decode-format5 .ensures ∙ painted-same _ _ _ (λ i. rw (f .before .before .off-of .ensures, d .before .before .before .width .ensures) (texel5 (all f) i (omega (arith, f .format .ensures)))) (rw (d .before .before .before .width .ensures, d .before .before .height .ensures))
+    d .decode-format5 .ensures
+    ∙ painted-same _ _ _
+    (λ i. rw (f .before .before .off-of .ensures, d .before .before .before .width .ensures) (texel5 (all f) i (omega (arith, f .format .ensures))))
+    (rw (d .before .before .before .width .ensures, d .before .before .height .ensures))
 
 same-length-6 : tie.Need-same-length-6
 same-length-6 c = search needs
@@ -152,7 +201,10 @@ returns-6 : tie.Need-returns-6
 returns-6 c =
     let d = c .before .before in
     let f = d .before .before .before in
-    d .decode-format6 .ensures ∙ painted-same _ _ _ (λ i. rw (f .before .before .off-of .ensures) (texel6 (all f) i (omega (arith, f .format .ensures)))) (omega (arith, texel-count f))
+    d .decode-format6 .ensures
+    ∙ painted-same _ _ _
+    (λ i. rw (f .before .before .off-of .ensures) (texel6 (all f) i (omega (arith, f .format .ensures))))
+    (omega (arith, texel-count f))
 
 same-length-7 : tie.Need-same-length-7
 same-length-7 c = search needs
@@ -161,7 +213,10 @@ returns-7 : tie.Need-returns-7
 returns-7 c =
     let d = c .before .before in
     let f = d .before .before .before in
-    d .decode-format7 .ensures ∙ painted-same _ _ _ (λ i. texel7 (all f) i (seven (d .before .before))) (omega (arith, texel-count f))
+    d .decode-format7 .ensures
+    ∙ painted-same _ _ _
+    (λ i. texel7 (all f) i (seven (d .before .before)))
+    (omega (arith, texel-count f))
 
 pub decode-format-spec : {M : Type 1} → statement M
 decode-format-spec =

@@ -1,4 +1,4 @@
--- `decode::decode_texture::decode_format1` meets its contract: texel after texel is copied from the table of the palette, with its own alpha. Assumes nothing.
+-- `decode::decode_texture::decode_format1` meets its contract: texels are copied from the palette's table, with their own alpha. Assumes nothing.
 use Prim.Native.Nat.{_+_, _-_, _*_, _≤_}
 use mathlib.Core.Path.{_≡_, _∙_}
 use mathlib.Core.Bool.{false}
@@ -26,7 +26,11 @@ slice-aggregate-expand-palette c = search needs
 expand-palette-requires : tie.Need-expand-palette-requires Inv-loop μ-loop
 expand-palette-requires c κs = search needs
 
-room : (c : tie.In-loop Inv-loop μ-loop) → let l = c .before in 4 * l .loop .n + 4 ≤ length (l .before .before .before .before .before .before .before .args .out .now)
+-- where the function begins
+abbrev start : tie.At-loop Inv-loop μ-loop → tie.Start Inv-loop μ-loop
+start c = c .before .before .before .before .before .before .before
+
+room : (c : tie.In-loop Inv-loop μ-loop) → let l = c .before in 4 * l .loop .n + 4 ≤ length (start l .args .out .now)
 room c = omega arith
 
 table : (c : tie.After-expand-palette Inv-loop μ-loop)
@@ -44,15 +48,19 @@ slice-aggregate-pixel-at : tie.Need-slice-aggregate-pixel-at Inv-loop μ-loop
 slice-aggregate-pixel-at c = search needs
 
 cast-pixel-at : tie.Need-cast-pixel-at Inv-loop μ-loop
-cast-pixel-at c = let l = c .before .before .before in omega (arith, and-mask (getD (l .before .before .before .before .before .before .before .args .data1 .now) (l .loop .n) 0) 5)
+cast-pixel-at c =
+    let l = c .before .before .before in
+    omega (arith, and-mask (getD (start l .args .data1 .now) (l .loop .n) 0) 5)
 
 pixel-at-requires : tie.Need-pixel-at-requires Inv-loop μ-loop
 pixel-at-requires c κs =
     let l = c .before .before .before in
-    omega (arith, and-mask (getD (l .before .before .before .before .before .before .before .args .data1 .now) (l .loop .n) 0) 5, table (l .before .before) .room)
+    omega (arith, and-mask (getD (start l .args .data1 .now) (l .loop .n) 0) 5, table (l .before .before) .room)
 
 a3-to-a5-requires : tie.Need-a3-to-a5-requires Inv-loop μ-loop
-a3-to-a5-requires c κs = let l = c .before .before .before .before .before in omega (arith, c .before .before .before .shared-slice-known3 .given (l .loop .n))
+a3-to-a5-requires c κs =
+    let l = c .before .before .before .before .before in
+    omega (arith, c .before .before .before .shared-slice-known3 .given (l .loop .n))
 
 with-alpha-requires : tie.Need-with-alpha-requires Inv-loop μ-loop
 with-alpha-requires c κs =
@@ -70,11 +78,11 @@ loop-less c = omega arith
 
 texel : (c : tie.After-put-pixel Inv-loop μ-loop)
     → let l = c .before .before .before .before .before .before .before .before in
-    let a = l .before .before .before .before .before .before .before .args in
+    let a = start l .args in
     c .before .with-alpha .result ≡ format1 (a .data1 .now) (a .pal .now) (a .off) (l .loop .n)
 texel c =
     let l = c .before .before .before .before .before .before .before .before in
-    let a = l .before .before .before .before .before .before .before .args in
+    let a = start l .args in
     let byte = c .before .before .before .before .before .before .shared-slice-known3 .given (l .loop .n) .fits in
     c .before .with-alpha .ensures
     ∙ rw (c .before .before .a3-to-a5 .ensures, c .before .before .before .before .pixel-at .ensures)
@@ -95,7 +103,7 @@ same-length c = wrote-length (c .before .loop .inv .1)
 returns : tie.Need-returns Inv-loop μ-loop
 returns c =
     let l = c .before in
-    let done : l .loop .n ≡ l .before .before .before .before .before .before .before .args .num-texels = omega arith in
+    let done : l .loop .n ≡ start l .args .num-texels = omega arith in
     rw (← done) (painted-all _ _ (l .loop .inv .1))
 
 pub decode-format1-spec : {M : Type 1} → statement M

@@ -19,15 +19,19 @@ check-requires c κs = search needs
 enum-known-refusal : tie.Need-enum-known-refusal
 enum-known-refusal c = search needs
 
+-- where the function begins
+abbrev start : tie.After-check → tie.Start
+start c = c .before .before .before .before .before .before
+
 passed : (c : tie.After-enum-told)
-    → let a = c .before .before .before .before .before .before .before .before .args in
+    → let a = start (c .before .before) .args in
     Ready (a .params .0) (length (now (a .data1))) (length (now (a .data2))) (a .palette) (length (now (a .out)))
 passed c = ready-if _ _ _ _ _ (rw (c .enum-told .given .1) at (c .before .before .check .ensures))
 
 returns : tie.Need-returns
 returns c =
     let m = c .before in
-    let a = m .before .before .before .before .before .before .before .before .args in
+    let a = start (m .before .before) .args in
     writes-declined (sources (a .params .0) (now (a .data1)) (now (a .data2)) (a .palette) (now (a .pal))) (now (a .out)) (m .refusal .given .0 .0)
     (rw (m .refusal .given .1) at (m .before .before .check .ensures))
 
@@ -47,7 +51,8 @@ returns-2 c =
     let k = t .before .before .before in
     let a = k .before .before .before .before .before .args in
     rw (k .num-texels .ensures .0, d .decode-format .ensures)
-    (writes-decoded (sources (a .params .0) (now (a .data1)) (now (a .data2)) (a .palette) (now (a .pal))) (now (a .out)) (passed t .is) (passed t .decodable .room))
+    (writes-decoded (sources (a .params .0) (now (a .data1)) (now (a .data2)) (a .palette) (now (a .pal))) (now (a .out))
+    (passed t .is) (passed t .decodable .room))
 
 pub decode-texture-spec : {M : Type 1} → statement M
 decode-texture-spec =

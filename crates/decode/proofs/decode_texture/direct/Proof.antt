@@ -1,6 +1,5 @@
 -- `decode::decode_texture::direct` meets its contract. Assumes nothing.
 use Prim.Native.Nat.{_/_, _%_}
-use mathlib.Core.Path.{_∙_, sym, ap}
 use native.Mathlib.Omega.{arith}
 use borrow.Author.Needs.{needs}
 use borrow.Author.Tests.{eq-eqb, ne-eqb}

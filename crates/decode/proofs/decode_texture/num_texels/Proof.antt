@@ -1,6 +1,5 @@
 -- `decode::decode_texture::num_texels` meets its contract. Assumes nothing.
 use Prim.Native.Nat.{_*_, _<_, _^_}
-use mathlib.Core.Path.{_≡_}
 use native.Mathlib.Omega.{arith}
 use borrow.Author.Needs.{needs}
 use Rattle.nds.proofs.Sizes.{width-le, height-le, area-lt}

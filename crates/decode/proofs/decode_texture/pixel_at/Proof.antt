@@ -32,7 +32,7 @@ shared-slice-read-t14 : tie.Need-shared-slice-read-t14
 shared-slice-read-t14 c = search needs
 
 returns : tie.Need-returns
-returns c = let a = c .before .before .before .before .args in four-at (now (a .texels)) (4 * a .k) (omega arith)
+returns c = let a = c .before .before .before .before .args in four-at (now (a .table)) (4 * a .k) (omega arith)
 
 pub pixel-at-spec : {M : Type 1} → statement M
 pixel-at-spec =

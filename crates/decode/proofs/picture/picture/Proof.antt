@@ -37,9 +37,13 @@ same-length c = search needs
 returns-2 : tie.Need-returns-2
 returns-2 c =
     let t = c .before .before in
-    let found = rw (t .before .before .before .before .before .before .before .before .before .before .places .given .1) at (t .before .before .before .before .before .before .before .before .before .before .before .before .locate .ensures) in
+    let third = t .before .before in
+    let second = third .before in
+    let first = second .before in
+    let p = first .before .before .before .before .before .before in
+    let found = rw (p .places .given .1) at (p .before .before .locate .ensures) in
     rw (picture-found _ _ _ found)
-    (rw (t .before .before .part-at3 .ensures, t .before .before .before .part-at2 .ensures, t .before .before .before .before .part-at .ensures) at (t .decode-texture .ensures))
+    (rw (third .part-at3 .ensures, second .part-at2 .ensures, first .part-at .ensures) at (t .decode-texture .ensures))
 
 pub picture-spec : {M : Type 1} → statement M
 picture-spec =
