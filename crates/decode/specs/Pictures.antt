@@ -70,6 +70,11 @@ decoded s = do
   _ ← ready (s .word) (length (s .parts .data1)) (length (s .parts .data2)) (s .palette)
   result (pictureBytes s)
 
+-- "(word, first and second data, optional palette block with 32-bit offset)": what a direct decoding is given.
+abbrev pub sources : (word : ℕ) (data1 data2 : List ℕ) → PaletteOff → (palBlock : List ℕ) → Sources
+sources word data1 data2 palette palBlock =
+    record { word = word; parts = record { data1 = data1; data2 = data2 }; palette = palette; palBlock = palBlock }
+
 -- "A picture from a block: reading, 7, 8 (also where the palette is unneeded), 9, 10, 12, 11."
 unfoldable pub pictureOf : (n : ℕ) → PaletteChoice → Answer Contents → Outcome (List ℕ)
 pictureOf n choice a = do

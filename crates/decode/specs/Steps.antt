@@ -10,15 +10,9 @@ use lib.Dec.{ltb}
 use Rattle.util.specs.Outcome.{Outcome, result, refusal, _>>=_}
 use Rattle.nds.specs.Params.{format}
 use Rattle.nds.specs.Formats.{dataLength, secondLength}
-use Rattle.nitro.specs.Calls.{Sources}
 use Rattle.nitro.specs.declared.tex.PaletteOff.{PaletteOff}
 use Rattle.decode.specs.Texels.{widen, texelBits, format5}
 use Rattle.decode.specs.Pictures.{quads, pictureLength, ready}
-
--- The sources of a direct decoding.
-abbrev pub sources : (word : ℕ) (data1 data2 : List ℕ) → PaletteOff → (palBlock : List ℕ) → Sources
-sources word data1 data2 palette palBlock =
-    record { word = word; parts = record { data1 = data1; data2 = data2 }; palette = palette; palBlock = palBlock }
 
 -- The first n texels written. 01, "Pixels": "the output beyond them keeps its content".
 unfoldable pub painted : (texel : ℕ → List ℕ) (n : ℕ) (output : List ℕ) → List ℕ

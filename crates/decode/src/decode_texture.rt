@@ -585,7 +585,7 @@ fn decode_format(
     pal: &[u8],
 )
     requires { ⌜ Steps.Decodable (params .0) (length (now data1)) (length (now data2)) (length (now out)) ⌝ }
-    ensures { λ r. ⌜ now (out .exit) ≡ Steps.painted (Pictures.texel (Steps.sources (params .0) (now (data1 .entry)) (now (data2 .entry)) palette (now (pal .entry)))) (Pictures.texelCount (params .0)) (now (out .entry)) ⌝ }
+    ensures { λ r. ⌜ now (out .exit) ≡ Steps.painted (Pictures.texel (Pictures.sources (params .0) (now (data1 .entry)) (now (data2 .entry)) palette (now (pal .entry)))) (Pictures.texelCount (params .0)) (now (out .entry)) ⌝ }
 {
     let n = num_texels(params);
     let off = off_of(palette);
@@ -615,7 +615,7 @@ pub fn decode_texture(
     pal: &[u8],
     out: &mut [u8],
 ) -> Counted
-    ensures { λ r. ⌜ Writes (Pictures.decoded (Steps.sources (params .0) (now (data1 .entry)) (now (data2 .entry)) palette (now (pal .entry)))) (now (out .entry)) (countedOutcome r) (now (out .exit)) ⌝ }
+    ensures { λ r. ⌜ Writes (Pictures.decoded (Pictures.sources (params .0) (now (data1 .entry)) (now (data2 .entry)) palette (now (pal .entry)))) (now (out .entry)) (countedOutcome r) (now (out .exit)) ⌝ }
 {
     let len = 4 * num_texels(params);
     if let Status::Refused(refusal) = check(params, data1.len(), data2.len(), palette, out.len()) {

@@ -14,17 +14,21 @@ use Rattle.nitro.specs.Script.{Answer, short, fault, whole, run, outcome
 use Rattle.nitro.specs.InfoBlock.{listAt, listLength}
 use Rattle.nitro.specs.Tex as Tex
 use Rattle.nitro.specs.Tex.{Contents, headerOf, readTex}
-use Rattle.nitro.specs.Calls.{Answers, entry, textureEntry, paletteEntry, valueOr, readingOf, chosenOf, sourcesOf, sourcesAt}
-use Rattle.nitro.specs.Layouts.{countOf, layoutOf, layoutWith, hasChoice, chosenAt, placesAt}
+use Rattle.nitro.specs.Calls.{Answers, entry, textureEntry, paletteEntry, valueOr, readingOf}
+use Rattle.nitro.specs.Calls.{Sources, chosenOf, sourcesOf, sourcesAt, placesAt, placesOf}
+use Rattle.nitro.specs.Layouts.{countOf, layoutOf, layoutWith, hasChoice, chosenAt, placesBy}
 use Rattle.nitro.specs.declared.errors.Kind.{Kind}
 use Rattle.nitro.specs.declared.errors.Kind.the-variants as kinds
 use Rattle.nitro.specs.declared.errors.Refusal.{Refusal}
 use Rattle.nitro.specs.declared.errors.Refusal.the-variants.{Short, Stamp, Dummy, DatumSize, Number, NoPalette, NoTexels, Output, ShortData}
 use Rattle.nitro.specs.declared.errors.Status.the-variants.{Done, Refused}
+use Rattle.nitro.specs.declared.tex.Header.{Header}
 use Rattle.nitro.specs.declared.tex.Layout.{Layout}
 use Rattle.nitro.specs.declared.tex.PaletteChoice.{PaletteChoice}
 use Rattle.nitro.specs.declared.tex.PaletteChoice.the-variants as choices
+use Rattle.nitro.specs.declared.tex.PaletteOff.{PaletteOff}
 use Rattle.nitro.specs.declared.tex.PaletteOff.the-variants as offs
+use Rattle.nitro.specs.declared.tex.Places.{Places}
 use Rattle.nitro.proofs.Runs.{whole-outcome, refusal-not, refusal-any}
 use Rattle.nitro.proofs.Readings.{TextureAt, finished, textures-listed, palettes-listed, pal-block-whole}
 
@@ -185,28 +189,65 @@ module _ (b : List ℕ) {c : Contents} (is : run readTex b ≡ whole c) where
   chosen-absent choices.None e = let z : _≡_ {A = ℕ} 0 1 = cc in absurd (omega arith)
   chosen-absent (choices.Number k) e = entry-out kinds.Palette _ (c .palettes) k (ltb-false k (length (c .palettes)) e)
 
--- and what a picture of texture n is made from
+-- a refusal is passed on, whatever comes next
+pub passed-on : {A B : Type 0} (r : Refusal) (o : Outcome A) (f : A → Outcome B) → refusalOutcome r ≡ o → refusalOutcome r ≡ (o >>= f)
+unfolding _>>=_
+passed-on r (result a) f e = absurd (refusal-not r e)
+passed-on r (refusal k v) f e = refusal-any r e
+
+-- what a picture of texture n is made from
 module _ (n : ℕ) (choice : PaletteChoice) (b : List ℕ) {c : Contents} (is : run readTex b ≡ whole c) (below : n < length (c .textures)) where
-  texture-in : entry kinds.Texture (λ (t : Tex.Texture). t) (c .textures) n ≡ result (getD (c .textures) n blankTexture)
+  abbrev this : Tex.Texture
+  this = getD (c .textures) n blankTexture
+
+  texture-in : entry kinds.Texture (λ (t : Tex.Texture). t) (c .textures) n ≡ result this
   texture-in = entry-in kinds.Texture (λ (t : Tex.Texture). t) (c .textures) n blankTexture below
 
-  sources-there : hasChoice (layoutOf b c) choice ≡ true
-      → result (sourcesAt b (placesAt b (layoutOf b c) n (chosenAt b (layoutOf b c) choice))) ≡ sourcesOf n choice (run readTex b)
-  unfolding sourcesOf outcomeOf placesAt _>>=_
-  sources-there e =
-      let t = textures-listed (headerOf (take 60 b)) b (finished b is .textures) .at n blankTexture below in
-      let p = pal-block-whole (headerOf (take 60 b)) b (finished b is .pal-block) in
-      rw (is, texture-in, chosen-there b is choice e, ← t .parts .first, ← t .parts .second, ← t .word, ← p)
-
-  sources-absent : hasChoice (layoutOf b c) choice ≡ false → refusal (absentNumber kinds.Palette) 0 ≡ sourcesOf n choice (run readTex b)
+  sources-by : {o : Outcome PaletteOff} → chosenOf choice (c .palettes) ≡ o
+      → sourcesOf n choice (run readTex b)
+      ≡ (o >>= λ p. result (record { word = this .word; parts = this .parts; palette = p; palBlock = c .palBlock }))
   unfolding sourcesOf outcomeOf _>>=_
-  sources-absent e = rw (is, texture-in, chosen-absent b is choice e)
+  sources-by e = rw (is, texture-in, e)
+
+  abbrev header : Header
+  header = headerOf (take 60 b)
+
+  -- by the layout
+  places-there : hasChoice (layoutOf b c) choice ≡ true
+      → result (placesBy b (layoutOf b c) n (chosenAt b (layoutOf b c) choice)) ≡ placesOf n choice b (run readTex b)
+  unfolding placesOf placesBy _>>=_
+  places-there e =
+      let t = textures-listed header b (finished b is .textures) .at n blankTexture below in
+      rw (sources-by (chosen-there b is choice e), ← t .word)
+
+  places-absent : hasChoice (layoutOf b c) choice ≡ false → refusal (absentNumber kinds.Palette) 0 ≡ placesOf n choice b (run readTex b)
+  unfolding placesOf _>>=_
+  places-absent e = rw (sources-by (chosen-absent b is choice e))
+
+  -- and by the places
+  parts-at : (p : PaletteOff)
+      → sourcesAt b (placesAt header (this .word) p)
+      ≡ record { word = this .word; parts = this .parts; palette = p; palBlock = c .palBlock }
+  parts-at p =
+      let t = textures-listed header b (finished b is .textures) .at n blankTexture below in
+      rw (t .word, ← t .parts .first, ← t .parts .second, ← pal-block-whole header b (finished b is .pal-block))
+
+  sources-at : {places : Places} → result places ≡ placesOf n choice b (run readTex b)
+      → result (sourcesAt b places) ≡ sourcesOf n choice (run readTex b)
+  unfolding placesOf _>>=_
+  sources-at {places} e = go (chosenOf choice (c .palettes)) refl
+    where
+      go : (o : Outcome PaletteOff) → chosenOf choice (c .palettes) ≡ o → result (sourcesAt b places) ≡ sourcesOf n choice (run readTex b)
+      go (refusal k v) q = let z : _≡_ {A = ℕ} 0 1 = cc (rw (sources-by q) at e) in absurd (omega arith)
+      go (result p) q =
+          let same : places ≡ placesAt header (this .word) p = cc (rw (sources-by q) at e) in
+          rw (same, sources-by q, parts-at p)
 
 -- the same by the layout that the code has
 pub record SourcesFound (n : ℕ) (choice : PaletteChoice) (b : List ℕ) (l : Layout) : Type 0 where
   pub within : l .header .«palette_off» + listLength kinds.Palette (l .palettes) ≤ length b
-  pub there : hasChoice l choice ≡ true → result (sourcesAt b (placesAt b l n (chosenAt b l choice))) ≡ sourcesOf n choice (run readTex b)
-  pub absent : hasChoice l choice ≡ false → refusal (absentNumber kinds.Palette) 0 ≡ sourcesOf n choice (run readTex b)
+  pub there : hasChoice l choice ≡ true → result (placesBy b l n (chosenAt b l choice)) ≡ placesOf n choice b (run readTex b)
+  pub absent : hasChoice l choice ≡ false → refusal (absentNumber kinds.Palette) 0 ≡ placesOf n choice b (run readTex b)
 
 pub sources-found : (n : ℕ) (choice : PaletteChoice) (b : List ℕ) {l : Layout}
     → result l ≡ layoutWith kinds.Texture n b (run readTex b) → SourcesFound n choice b l
@@ -215,20 +256,46 @@ sources-found n choice b e =
     subst (SourcesFound n choice b) (sym (o .laid))
     (record {
       within = palettes-listed (headerOf (take 60 b)) b (finished b (o .is) .palettes) .within;
-      there = sources-there n choice b (o .is) (o .below);
-      absent = sources-absent n choice b (o .is) (o .below);
+      there = places-there n choice b (o .is) (o .below);
+      absent = places-absent n choice b (o .is) (o .below);
     })
 
--- a refusal is passed on, whatever comes next
-pub passed-on : {A B : Type 0} (r : Refusal) (o : Outcome A) (f : A → Outcome B) → refusalOutcome r ≡ o → refusalOutcome r ≡ (o >>= f)
-unfolding _>>=_
-passed-on r (result a) f e = absurd (refusal-not r e)
-passed-on r (refusal k v) f e = refusal-any r e
-
-pub no-sources : (n : ℕ) (choice : PaletteChoice) (b : List ℕ) (r : Refusal) (a : Answer Contents)
+no-texture-sources : (n : ℕ) (choice : PaletteChoice) (b : List ℕ) (r : Refusal) (a : Answer Contents)
     → refusalOutcome r ≡ layoutWith kinds.Texture n b a → refusalOutcome r ≡ sourcesOf n choice a
 unfolding sourcesOf layoutWith outcomeOf
-no-sources n choice b r (short w) e = refusal-any r e
-no-sources n choice b r (fault w) e = refusal-any r e
-no-sources n choice b r (whole c) e =
+no-texture-sources n choice b r (short w) e = refusal-any r e
+no-texture-sources n choice b r (fault w) e = refusal-any r e
+no-texture-sources n choice b r (whole c) e =
     passed-on r _ _ (no-entry kinds.Texture n b (λ c. c .textures) (λ t. t) (λ c. refl) r (whole c) e)
+
+pub no-sources : (n : ℕ) (choice : PaletteChoice) (b : List ℕ) (r : Refusal) (a : Answer Contents)
+    → refusalOutcome r ≡ layoutWith kinds.Texture n b a → refusalOutcome r ≡ placesOf n choice b a
+unfolding placesOf
+no-sources n choice b r a e = passed-on r (sourcesOf n choice a) _ (no-texture-sources n choice b r a e)
+
+-- what the parts at the places that were found are
+pub located-sources : (n : ℕ) (choice : PaletteChoice) (b : List ℕ) {places : Places}
+    → result places ≡ placesOf n choice b (run readTex b) → result (sourcesAt b places) ≡ sourcesOf n choice (run readTex b)
+unfolding placesOf sourcesOf outcomeOf _>>=_
+located-sources n choice b {places} e = go (run readTex b) refl
+  where
+    no : {A : Type 0} {k v : ℕ} → _≡_ {A = Outcome Places} (result places) (refusal k v) → A
+    no q = let z : _≡_ {A = ℕ} 0 1 = cc in absurd (omega arith)
+
+    go : (a : Answer Contents) → run readTex b ≡ a → result (sourcesAt b places) ≡ sourcesOf n choice (run readTex b)
+    go (short w) q = no (rw q at e)
+    go (fault f) q = no (rw q at e)
+    go (whole c) q = pick (ltb n (length (c .textures))) refl
+      where
+        pick : (t : Bool) → ltb n (length (c .textures)) ≡ t → result (sourcesAt b places) ≡ sourcesOf n choice (run readTex b)
+        pick true h = sources-at n choice b q (ltb-true n (length (c .textures)) h) e
+        pick false h = no (rw (q, entry-out kinds.Texture (λ (t : Tex.Texture). t) (c .textures) n (ltb-false n (length (c .textures)) h)) at e)
+
+pub located-refused : (n : ℕ) (choice : PaletteChoice) (b : List ℕ) (r : Refusal) (a : Answer Contents)
+    → refusalOutcome r ≡ placesOf n choice b a → refusalOutcome r ≡ sourcesOf n choice a
+unfolding placesOf _>>=_
+located-refused n choice b r a e = go (sourcesOf n choice a) refl
+  where
+    go : (o : Outcome Sources) → sourcesOf n choice a ≡ o → refusalOutcome r ≡ sourcesOf n choice a
+    go (result s) q = absurd (refusal-not r (rw q at e))
+    go (refusal k v) q = rw q (refusal-any r (rw q at e))

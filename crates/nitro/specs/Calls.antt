@@ -1,20 +1,21 @@
 -- What each call answers, as a function of the reading's answer and the call's other arguments. Assumes nothing.
-use Prim.Native.Nat.{ℕ, zero, suc}
+use Prim.Native.Nat.{ℕ, zero, suc, _*_}
 use mathlib.Core.Path.{_≡_}
 use mathlib.Core.List.{List, [], _∷_}
-use lib.ListN.{length, replicate}
+use lib.ListN.{length, take, replicate}
 use Rattle.util.specs.Outcome.{Outcome, result, refusal, _>>=_}
 use Rattle.util.specs.Take.{takenPart}
 use Rattle.nds.specs.Params.{repeatS, mirrorS, repeatT, mirrorT}
-use Rattle.nds.specs.Formats.{alpha}
+use Rattle.nds.specs.Formats.{alpha, dataLength, secondLength}
 use Rattle.nds.specs.Wrap.{wrapOf}
 use Rattle.nitro.specs.Refusal.{absentNumber, refusalOutcome}
 use Rattle.nitro.specs.Script.{Answer, outcomeOf}
-use Rattle.nitro.specs.Tex.{Data, Texture, Palette, Contents}
+use Rattle.nitro.specs.Tex.{Data, Texture, Palette, Contents, headerOf, dataAt, secondAt}
 use Rattle.nitro.specs.declared.errors.Kind.{Kind}
 use Rattle.nitro.specs.declared.errors.Kind.the-variants as kind
 use Rattle.nitro.specs.declared.errors.Status.{Status}
 use Rattle.nitro.specs.declared.errors.Status.the-variants.{Done, Refused}
+use Rattle.nitro.specs.declared.tex.Header.{Header}
 use Rattle.nitro.specs.declared.tex.Reading.{Reading}
 use Rattle.nitro.specs.declared.tex.Reading.the-variants as reading
 use Rattle.nitro.specs.declared.tex.TextureRecord.{TextureRecord}
@@ -130,6 +131,26 @@ sourcesOf n choice a = outcomeOf a λ c. do
   palette ← chosenOf choice (c .palettes)
   result (record { word = texture .word; parts = texture .parts; palette = palette; palBlock = c .palBlock })
 
+-- The places of a picture's parts. 01, "Modules" 5: "Data lies at `tex_block_off` + offset. For format 5 it lies at
+-- `compressed1_block_off` + offset, then half as many bytes at `compressed2_block_off` + half the offset."
+abbrev pub placesAt : Header → (word : ℕ) → PaletteOff → Places
+placesAt h word palette = record {
+  params = record { 0 = word };
+  data1 = record { pos = dataAt h word; len = dataLength word };
+  data2 = record { pos = secondAt h word; len = secondLength word };
+  palette = palette;
+  «pal_block» = record { pos = h .«pal_block_off»; len = 8 * h .«pal_block_len_shr_3» };
+}
+
+unfoldable pub placesOf : (n : ℕ) → PaletteChoice → (block : List ℕ) → Answer Contents → Outcome Places
+placesOf n choice block a = do
+  sources ← sourcesOf n choice a
+  result (placesAt (headerOf (take 60 block)) (sources .word) (sources .palette))
+
+abbrev pub locatedOutcome : Located → Outcome Places
+locatedOutcome (located.Found places) = result places
+locatedOutcome (located.Refused r) = refusalOutcome r
+
 -- The part of the block at a place, and all parts at a picture's places.
 abbrev pub partAt : (block : List ℕ) → Place → List ℕ
 partAt block place = takenPart (place .pos) (place .len) block
@@ -141,7 +162,3 @@ sourcesAt block places = record {
   palette = places .palette;
   palBlock = partAt block (places .«pal_block»);
 }
-
-abbrev pub locatedOutcome : (block : List ℕ) → Located → Outcome Sources
-locatedOutcome block (located.Found places) = result (sourcesAt block places)
-locatedOutcome block (located.Refused r) = refusalOutcome r

@@ -6,11 +6,11 @@ use mathlib.Core.List.{List}
 use lib.ListN.{length, take}
 use lib.Dec.{ltb}
 use Rattle.util.specs.Outcome.{Outcome, result, refusal}
-use Rattle.nds.specs.Formats.{dataLength, secondLength}
 use Rattle.nitro.specs.Refusal.{absentNumber, refusalOutcome}
 use Rattle.nitro.specs.Script.{Script, Answer, run, outcomeOf, each}
 use Rattle.nitro.specs.InfoBlock.{listAt, entryNumber}
-use Rattle.nitro.specs.Tex.{Texture, Contents, headerOf, dataAt, secondAt, readTexture}
+use Rattle.nitro.specs.Tex.{Texture, Contents, headerOf, readTexture}
+use Rattle.nitro.specs.Calls.{placesAt}
 use Rattle.nitro.specs.declared.errors.Kind.{Kind}
 use Rattle.nitro.specs.declared.errors.Kind.the-variants as kind
 use Rattle.nitro.specs.declared.tex.Header.{Header}
@@ -75,15 +75,7 @@ chosenAt block l choices.None = offs.None
 chosenAt block l (choices.Number k) =
     offs.At (8 * entryNumber kind.Palette 2 (listAt kind.Palette (l .header .«palette_off») (l .palettes) block) k)
 
--- The places of the data of a texture with word w, and of the palette block.
-abbrev pub placesOf : Layout → (w : ℕ) → PaletteOff → Places
-placesOf l w palette = record {
-  params = record { 0 = w };
-  data1 = record { pos = dataAt (l .header) w; len = dataLength w };
-  data2 = record { pos = secondAt (l .header) w; len = secondLength w };
-  palette = palette;
-  «pal_block» = record { pos = l .header .«pal_block_off»; len = 8 * l .header .«pal_block_len_shr_3» };
-}
-
-unfoldable pub placesAt : (block : List ℕ) → Layout → (n : ℕ) → PaletteOff → Places
-placesAt block l n palette = placesOf l (entryNumber kind.Texture 4 (listAt kind.Texture (l .header .«texture_off») (l .textures) block) n) palette
+-- The places of texture n, beside the palette's offset.
+unfoldable pub placesBy : (block : List ℕ) → Layout → (n : ℕ) → PaletteOff → Places
+placesBy block l n palette =
+    placesAt (l .header) (entryNumber kind.Texture 4 (listAt kind.Texture (l .header .«texture_off») (l .textures) block) n) palette

@@ -468,7 +468,7 @@ fn chosen_off(block: &[u8], layout: Layout, choice: PaletteChoice) -> PaletteOff
 // The places of a picture's texture, beside the palette's offset.
 fn places_of(block: &[u8], layout: Layout, n: usize, palette: PaletteOff) -> Places
     requires { ⌜ (layout .header .«texture_off» + listLength kinds.Texture (layout .textures) ≤ length (now block)) × (n < layout .textures) ⌝ }
-    ensures { λ r. ⌜ r ≡ Layouts.placesAt (now (block .entry)) layout n palette ⌝ }
+    ensures { λ r. ⌜ r ≡ Layouts.placesBy (now (block .entry)) layout n palette ⌝ }
 {
     let header = layout.header;
     let params = params_at(block, header.texture_off as usize, layout.textures, n);
@@ -490,9 +490,9 @@ fn places_of(block: &[u8], layout: Layout, n: usize, palette: PaletteOff) -> Pla
     }
 }
 
-// What a picture of texture n with the chosen palette is made from.
+// Where in the block all that a picture of texture n with the chosen palette is made from is.
 pub fn locate(block: &[u8], n: usize, choice: PaletteChoice) -> Located
-    ensures { λ r. ⌜ Calls.locatedOutcome (now (block .entry)) r ≡ Calls.sourcesOf n choice (run Tex.readTex (now (block .entry))) ⌝ }
+    ensures { λ r. ⌜ Calls.locatedOutcome r ≡ Calls.placesOf n choice (now (block .entry)) (run Tex.readTex (now (block .entry))) ⌝ }
 {
     match find(block, Kind::Texture, n) {
         Laid::Refused(refusal) => Located::Refused(refusal),

@@ -2,7 +2,7 @@
 use lib.ListN.{length}
 use denote.Ref.{now}
 use borrow.Author.Needs.{needs}
-use Rattle.decode.specs.Steps.{sources}
+use Rattle.decode.specs.Pictures.{sources}
 use Rattle.decode.proofs.Pictures.{Ready, ready-if, writes-declined, writes-decoded}
 use Rattle.decode.proofs.decode_texture.decode_texture.Statement.{statement}
 use Rattle.decode.proofs.decode_texture.decode_texture.Tie as tie

@@ -1,5 +1,6 @@
 -- `decode::picture::picture` meets its contract: what was located is decoded. Assumes nothing.
 use borrow.Author.Needs.{needs}
+use Rattle.nitro.proofs.Answers.{located-sources, located-refused}
 use Rattle.nitro.proofs.Outputs.{writes-refusal}
 use Rattle.decode.proofs.Pictures.{picture-found, picture-refused}
 use Rattle.decode.proofs.picture.picture.Statement.{statement}
@@ -29,7 +30,8 @@ decode-texture-requires c κs = search needs
 returns : tie.Need-returns
 returns c =
     let r = c .before .refusal .given in
-    writes-refusal (r .0 .0) _ (picture-refused _ _ _ (r .0 .0) (rw (r .1) at (c .before .before .before .locate .ensures)))
+    let refused = located-refused _ _ _ (r .0 .0) _ (rw (r .1) at (c .before .before .before .locate .ensures)) in
+    writes-refusal (r .0 .0) _ (picture-refused _ _ _ (r .0 .0) refused)
 
 same-length : tie.Need-same-length
 same-length c = search needs
@@ -41,7 +43,7 @@ returns-2 c =
     let second = third .before in
     let first = second .before in
     let p = first .before .before .before .before .before .before in
-    let found = rw (p .places .given .1) at (p .before .before .locate .ensures) in
+    let found = located-sources _ _ _ (rw (p .places .given .1) at (p .before .before .locate .ensures)) in
     rw (picture-found _ _ _ found)
     (rw (third .part-at3 .ensures, second .part-at2 .ensures, first .part-at .ensures) at (t .decode-texture .ensures))
 

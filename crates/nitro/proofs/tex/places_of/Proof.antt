@@ -1,6 +1,6 @@
 -- `nitro::tex::places_of` meets its contract: each part stands where its own function says. Assumes nothing.
 use borrow.Author.Needs.{needs}
-use Rattle.nitro.specs.Layouts.{placesAt}
+use Rattle.nitro.specs.Layouts.{placesBy}
 use Rattle.nitro.proofs.tex.places_of.Statement.{statement}
 use Rattle.nitro.proofs.tex.places_of.Tie as tie
 
@@ -29,7 +29,7 @@ pal-block-len-requires : tie.Need-pal-block-len-requires
 pal-block-len-requires c κs = search needs
 
 returns : tie.Need-returns
-unfolding placesAt
+unfolding placesBy
 returns c =
     let second = c .before .before .before in
     let first = second .before .before in
