@@ -27,6 +27,7 @@ texelCount w = width w * height w
 abbrev pub pictureLength : (word : ℕ) → ℕ
 pictureLength w = 4 * texelCount w
 
+-- A palette's byte offset. Without one no colour is looked up: format 7 has its own, and the others are refused.
 abbrev pub offOf : PaletteOff → ℕ
 offOf off.None = 0
 offOf (off.At p) = p
