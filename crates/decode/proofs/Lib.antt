@@ -1,3 +1,4 @@
+pub mod Beyond
 pub mod Pictures
 pub mod Quads
 pub mod Rows
