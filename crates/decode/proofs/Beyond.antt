@@ -1,9 +1,9 @@
 -- 01, "Pixels": "Data beyond the needed length is ignored." Assumes nothing.
 use Prim.Native.Nat.{ℕ, _+_, _*_, _/_, _%_, _≤_, _<_}
-use mathlib.Core.Path.{_≡_, refl, ap}
+use mathlib.Core.Path.{_≡_, refl, _∙_}
 use mathlib.Core.Bool.{Bool, true, false}
 use mathlib.Core.List.{List}
-use native.Mathlib.Nat.{mul-comm, mod-lt, div-lt-iff-lt-mul}
+use native.Mathlib.Nat.{zero-add, mul-comm, mod-lt, div-lt-iff-lt-mul}
 use native.Mathlib.Omega.{arith}
 use lib.ListN.{length, take}
 use lib.Seq.{getD-take, length-take-le, take-all}
@@ -11,8 +11,8 @@ use lib.Dec.{eqb, ltb}
 use borrow.Author.Count.{below-none, below-more}
 use borrow.Author.Tests.{le-ltb, ltb-true, ltb-false, eqb-false}
 use Rattle.util.specs.Outcome.{_>>=_}
-use Rattle.util.specs.Number.{littleEndian, numberAt}
-use Rattle.util.proofs.Parts.{part-of-prefix}
+use Rattle.util.specs.Number.{numberAt}
+use Rattle.util.proofs.Numbers.{number-in-part}
 use Rattle.nds.specs.Params.{width, height, format}
 use Rattle.nds.specs.Formats.{dataLength, secondLength}
 use Rattle.nitro.specs.Calls.{Sources}
@@ -37,8 +37,7 @@ cut-short m l = go (ltb (length l) m) refl
 
 -- a number before the cut
 number-cut : (size p m : ℕ) (l : List ℕ) → p + size ≤ m → numberAt size p (take m l) ≡ numberAt size p l
-unfolding numberAt
-number-cut size p m l h = ap littleEndian (part-of-prefix p size m l h)
+number-cut size p m l h = number-in-part size p 0 m l h ∙ rw zero-add
 
 -- the block of a texel is one of the picture's
 block-below : (w n : ℕ) → n < texelCount w → blockOf (width w) (n % width w) (n / width w) + 1 ≤ width w / 4 * (height w / 4)

@@ -9,7 +9,7 @@ use native.Mathlib.Omega.{arith}
 use lib.ListN.{length, take, drop, getD, set, length-append, length-drop, take-append-drop, drop-of-length-le}
 use lib.Seq.{take-set-le, take-set-lt, drop-set-lt, drop-set-add, length-take-le, take-all, take-add, drop-drop, sets, length-sets, sets-eq}
 use lib.Pow.{shr-shr}
-use borrow.Author.Count.{below-none, below-more}
+use borrow.Author.Count.{below-more}
 use Rattle.util.specs.Number.{numberAt}
 use Rattle.util.proofs.Numbers.{number-one, number-add}
 use Rattle.nitro.proofs.Outputs.{wrote-length, wrote-more, wrote-all}
@@ -17,7 +17,7 @@ use Rattle.decode.specs.Texels.{blockColor, format5}
 use Rattle.decode.specs.Pictures.{quads}
 use Rattle.decode.specs.Steps.{painted, pixelAt, rowBytes, byteOf, rowOf, BlockPut, compressedTexel, rowsTexel}
 use Rattle.decode.proofs.Quads.{Fours, length-quads, quads-same, quads-add, Painting, paint-none, painted-at}
-use Rattle.decode.proofs.Texels.{block-four}
+use Rattle.decode.proofs.Texels.{below-four, block-four}
 
 -- bytes stored behind others that were stored
 sets-append : (l : List ℕ) (p : ℕ) (xs ys : List ℕ) → sets (sets l p xs) (p + length xs) ys ≡ sets l p (xs ++ ys)
@@ -185,10 +185,6 @@ module _ {width : ℕ} {f : ℕ → List ℕ} {i : ℕ} {entry now : List ℕ} (
       row r l =
           subst (λ k. rowOf width r now ≡ quads (λ x. f (r * width + x)) k) (omega arith)
           (wrote-all (d .row r l) (omega (arith, full-row r l)))
-
--- by cases, below four
-below-four : (P : ℕ → Type 0) → P 0 → P 1 → P 2 → P 3 → (k : ℕ) → k < 4 → P k
-below-four P p0 p1 p2 p3 = below-more P 3 (below-more P 2 (below-more P 1 (below-more P 0 (below-none P) p0) p1) p2) p3
 
 -- the number of four bytes
 module _ (b : List ℕ) (p : ℕ) (small : (i : ℕ) → getD b i 0 < 256) (h : p + 4 ≤ length b) where

@@ -8,8 +8,13 @@ use native.Mathlib.Omega.{arith}
 use lib.ListN.{length, take, drop, getD, set}
 use lib.Seq.{sets, drop-cons, take-all}
 use lib.Bits.{bitAnd, bitOr, and-mask, or-shifted}
+use borrow.Author.Count.{below-none, below-more}
 use Rattle.decode.specs.Texels.{pixel, paletteColor, texelBits, format1, indexed, formats2to4, opaque, mixChannel}
 use Rattle.decode.specs.Texels.{mix, modeColor, blockColor, format5, format6, format7}
+
+-- by cases, below four
+pub below-four : (P : ℕ → Type 0) → P 0 → P 1 → P 2 → P 3 → (k : ℕ) → k < 4 → P k
+below-four P p0 p1 p2 p3 = below-more P 3 (below-more P 2 (below-more P 1 (below-more P 0 (below-none P) p0) p1) p2) p3
 
 -- a level, shifted left by k, with its high bits below: a widening
 pub shift-or : (x k j : ℕ) → x * 2 ^ k < 2 ^ 8 → x / 2 ^ j < 2 ^ k → bitOr (x * 2 ^ k % 2 ^ 8) (x / 2 ^ j) ≡ 2 ^ k * x + x / 2 ^ j
@@ -101,11 +106,7 @@ module _ (pal : List ℕ) (p first : ℕ) where
 
   pub mode2-plain : (t : ℕ) → t < 4 → opaque pal p 0 (first + t) ≡ modeColor pal p first 2 t
   unfolding modeColor
-  mode2-plain zero h = from 0
-  mode2-plain (suc zero) h = from 1
-  mode2-plain (suc (suc zero)) h = from 2
-  mode2-plain (suc (suc (suc zero))) h = from 3
-  mode2-plain (suc (suc (suc (suc t)))) h = absurd (omega arith)
+  mode2-plain = below-four (λ t. opaque pal p 0 (first + t) ≡ modeColor pal p first 2 t) (from 0) (from 1) (from 2) (from 3)
 
   pub mode3-plain : (t : ℕ) → t < 2 → opaque pal p 0 (first + t) ≡ modeColor pal p first 3 t
   unfolding modeColor
@@ -130,25 +131,22 @@ pub pixel-four : (color alpha : ℕ) → length (pixel color alpha) ≡ 4
 unfolding pixel
 pixel-four color alpha = refl
 
-chosen-four : (a b c d : List ℕ) → length a ≡ 4 → length b ≡ 4 → length c ≡ 4 → length d ≡ 4 → (t : ℕ) → t < 4
-    → length (getD (a ∷ b ∷ c ∷ d ∷ []) t []) ≡ 4
-chosen-four a b c d ha hb hc hd zero k = ha
-chosen-four a b c d ha hb hc hd (suc zero) k = hb
-chosen-four a b c d ha hb hc hd (suc (suc zero)) k = hc
-chosen-four a b c d ha hb hc hd (suc (suc (suc zero))) k = hd
-chosen-four a b c d ha hb hc hd (suc (suc (suc (suc t)))) k = absurd (omega arith)
+chosen-four : (a b c d : List ℕ) → length a ≡ 4 → length b ≡ 4 → length c ≡ 4 → length d ≡ 4
+    → (t : ℕ) → t < 4 → length (getD (a ∷ b ∷ c ∷ d ∷ []) t []) ≡ 4
+chosen-four a b c d = below-four (λ t. length (getD (a ∷ b ∷ c ∷ d ∷ []) t []) ≡ 4)
 
-mode-four : (pal : List ℕ) (p first mode t : ℕ) → mode < 4 → t < 4 → length (modeColor pal p first mode t) ≡ 4
+mode-four : (pal : List ℕ) (p first t : ℕ) → t < 4 → (mode : ℕ) → mode < 4 → length (modeColor pal p first mode t) ≡ 4
 unfolding modeColor mix opaque pixel
-mode-four pal p first zero t h k = chosen-four _ _ _ _ refl refl refl refl t k
-mode-four pal p first (suc zero) t h k = chosen-four _ _ _ _ refl refl refl refl t k
-mode-four pal p first (suc (suc zero)) t h k = chosen-four _ _ _ _ refl refl refl refl t k
-mode-four pal p first (suc (suc (suc zero))) t h k = chosen-four _ _ _ _ refl refl refl refl t k
-mode-four pal p first (suc (suc (suc (suc m)))) t h k = absurd (omega arith)
+mode-four pal p first t h =
+    below-four (λ mode. length (modeColor pal p first mode t) ≡ 4)
+    (chosen-four _ _ _ _ refl refl refl refl t h)
+    (chosen-four _ _ _ _ refl refl refl refl t h)
+    (chosen-four _ _ _ _ refl refl refl refl t h)
+    (chosen-four _ _ _ _ refl refl refl refl t h)
 
 pub block-four : (pal : List ℕ) (p extra t : ℕ) → t < 4 → length (blockColor pal p extra t) ≡ 4
 unfolding blockColor
-block-four pal p extra t h = mode-four pal p (2 * (extra % 2 ^ 14)) (extra / 2 ^ 14 % 2 ^ 2) t (omega arith) h
+block-four pal p extra t h = mode-four pal p (2 * (extra % 2 ^ 14)) t h (extra / 2 ^ 14 % 2 ^ 2) (omega arith)
 
 pub indexed-four : (clear0 : Bool) (pal : List ℕ) (p i : ℕ) → length (indexed clear0 pal p i) ≡ 4
 unfolding indexed

@@ -1,5 +1,5 @@
 -- `decode::decode_texture::decode_format` meets its contract: the texels are those of the format. Assumes nothing.
-use Prim.Native.Nat.{ℕ, _*_, _/_, _≤_}
+use Prim.Native.Nat.{ℕ, _*_, _/_, _≤_, _<_}
 use mathlib.Core.Path.{_≡_, sym, _∙_, subst}
 use native.Mathlib.Omega.{arith}
 use lib.ListN.{length}
@@ -9,6 +9,7 @@ use Rattle.nds.specs.Params.{format}
 use Rattle.nds.specs.Formats.{bitsPerTexel}
 use Rattle.nitro.specs.Calls.{Sources}
 use Rattle.decode.specs.Pictures.{texelCount, sources}
+use Rattle.decode.specs.Steps.{IndexedFits}
 use Rattle.decode.proofs.Pictures.{eights, length-by, second-by, texel1, texel2, texel3, texel4, texel5, texel6, texel7}
 use Rattle.decode.proofs.Quads.{painted-same}
 use Rattle.decode.proofs.decode_texture.decode_format.Statement.{statement}
@@ -48,6 +49,14 @@ data-there c f e =
 seven : (c : tie.At-match-rest) → format (start (c .before) .args .params .0) ≡ 7
 seven c = omega (arith, c .before .format .ensures, start (c .before) .pre .some)
 
+-- formats 2 to 4, by the bits of a texel
+fits : (c : tie.After-format) (bits : ℕ) → let n = c .before .before .before .num-texels .result in
+    0 < bits → bits ≤ 8 → n * bits ≤ 8 * length (now (start c .args .data1))
+    → IndexedFits bits n (length (now (start c .args .data1))) (length (now (start c .args .out)))
+fits c bits some byte there =
+    let count = c .before .before .before .num-texels .ensures .1 in
+    record { some = some; byte = byte; small = omega arith; there = there; room = room c }
+
 decode-format1-requires : tie.Need-decode-format1-requires
 decode-format1-requires c κs =
     let f = c .before .before in
@@ -57,41 +66,20 @@ decode-format1-requires c κs =
 decode-format2-requires : tie.Need-decode-format2-requires
 decode-format2-requires c κs =
     let f = c .before .before in
-    let w = start f .args .params .0 in
-    let is : format w ≡ 2 = omega (arith, f .format .ensures) in
-    record {
-      some = omega arith;
-      byte = omega arith;
-      small = omega (arith, f .before .before .before .num-texels .ensures .1);
-      there = omega (arith, data-there f 2 is, eights w .texels, texel-count f);
-      room = omega (arith, room f);
-    }
+    let there = data-there f 2 (omega (arith, f .format .ensures)) in
+    fits f 2 (omega arith) (omega arith) (omega (arith, eights (start f .args .params .0) .texels, texel-count f))
 
 decode-format3-requires : tie.Need-decode-format3-requires
 decode-format3-requires c κs =
     let f = c .before .before in
-    let w = start f .args .params .0 in
-    let is : format w ≡ 3 = omega (arith, f .format .ensures) in
-    record {
-      some = omega arith;
-      byte = omega arith;
-      small = omega (arith, f .before .before .before .num-texels .ensures .1);
-      there = omega (arith, data-there f 3 is, eights w .texels, texel-count f);
-      room = omega (arith, room f);
-    }
+    let there = data-there f 3 (omega (arith, f .format .ensures)) in
+    fits f 4 (omega arith) (omega arith) (omega (arith, eights (start f .args .params .0) .texels, texel-count f))
 
 decode-format4-requires : tie.Need-decode-format4-requires
 decode-format4-requires c κs =
     let f = c .before .before in
-    let w = start f .args .params .0 in
-    let is : format w ≡ 4 = omega (arith, f .format .ensures) in
-    record {
-      some = omega arith;
-      byte = omega arith;
-      small = omega (arith, f .before .before .before .num-texels .ensures .1);
-      there = omega (arith, data-there f 4 is, eights w .texels, texel-count f);
-      room = omega (arith, room f);
-    }
+    let there = data-there f 4 (omega (arith, f .format .ensures)) in
+    fits f 8 (omega arith) (omega arith) (omega (arith, eights (start f .args .params .0) .texels, texel-count f))
 
 width-requires : tie.Need-width-requires
 width-requires c κs = search needs
