@@ -49,13 +49,13 @@ data-there c f e =
 seven : (c : tie.At-match-rest) → format (start (c .before) .args .params .0) ≡ 7
 seven c = omega (arith, c .before .format .ensures, start (c .before) .pre .some)
 
--- formats 2 to 4, by the bits of a texel
-fits : (c : tie.After-format) (bits : ℕ) → let n = c .before .before .before .num-texels .result in
-    0 < bits → bits ≤ 8 → n * bits ≤ 8 * length (now (start c .args .data1))
+-- formats 2 to 4, by the bits of a texel: n texels, no more than the picture has
+fits : (c : tie.After-format) (bits n : ℕ) → n ≤ c .before .before .before .num-texels .result
+    → 0 < bits → bits ≤ 8 → n * bits ≤ 8 * length (now (start c .args .data1))
     → IndexedFits bits n (length (now (start c .args .data1))) (length (now (start c .args .out)))
-fits c bits some byte there =
+fits c bits n within some byte there =
     let count = c .before .before .before .num-texels .ensures .1 in
-    record { some = some; byte = byte; small = omega arith; there = there; room = room c }
+    record { some = some; byte = byte; small = omega arith; there = there; room = omega (arith, room c) }
 
 decode-format1-requires : tie.Need-decode-format1-requires
 decode-format1-requires c κs =
@@ -67,19 +67,19 @@ decode-format2-requires : tie.Need-decode-format2-requires
 decode-format2-requires c κs =
     let f = c .before .before in
     let there = data-there f 2 (omega (arith, f .format .ensures)) in
-    fits f 2 (omega arith) (omega arith) (omega (arith, eights (start f .args .params .0) .texels, texel-count f))
+    fits f 2 _ (omega arith) (omega arith) (omega arith) (omega (arith, eights (start f .args .params .0) .texels, texel-count f))
 
 decode-format3-requires : tie.Need-decode-format3-requires
 decode-format3-requires c κs =
     let f = c .before .before in
     let there = data-there f 3 (omega (arith, f .format .ensures)) in
-    fits f 4 (omega arith) (omega arith) (omega (arith, eights (start f .args .params .0) .texels, texel-count f))
+    fits f 4 _ (omega arith) (omega arith) (omega arith) (omega (arith, eights (start f .args .params .0) .texels, texel-count f))
 
 decode-format4-requires : tie.Need-decode-format4-requires
 decode-format4-requires c κs =
     let f = c .before .before in
     let there = data-there f 4 (omega (arith, f .format .ensures)) in
-    fits f 8 (omega arith) (omega arith) (omega (arith, eights (start f .args .params .0) .texels, texel-count f))
+    fits f 8 _ (omega arith) (omega arith) (omega arith) (omega (arith, eights (start f .args .params .0) .texels, texel-count f))
 
 width-requires : tie.Need-width-requires
 width-requires c κs = search needs
