@@ -20,7 +20,6 @@ use Rattle.nitro.specs.Layouts.{countOf, layoutOf, layoutWith, hasChoice
 use Rattle.nitro.specs.declared.errors.Kind.{Kind}
 use Rattle.nitro.specs.declared.errors.Kind.the-variants as kinds
 use Rattle.nitro.specs.declared.errors.Refusal.{Refusal}
-use Rattle.nitro.specs.declared.errors.Refusal.the-variants.{Short, Stamp, Dummy, DatumSize, Number, NoPalette, NoTexels, Output, ShortData}
 use Rattle.nitro.specs.declared.errors.Status.the-variants.{Done, Refused}
 use Rattle.nitro.specs.declared.tex.Header.{Header}
 use Rattle.nitro.specs.declared.tex.Layout.{Layout}
@@ -48,15 +47,7 @@ module _ {A B : Type 0} (k : Kind) (f : A → B) where
 
 -- a refusal leaves the blank
 pub value-refused : {A : Type 0} (blank : A) (r : Refusal) → blank ≡ valueOr blank (refusalOutcome r)
-value-refused blank (Short w) = refl
-value-refused blank Stamp = refl
-value-refused blank (Dummy k) = refl
-value-refused blank (DatumSize k) = refl
-value-refused blank (Number k) = refl
-value-refused blank NoPalette = refl
-value-refused blank NoTexels = refl
-value-refused blank Output = refl
-value-refused blank ShortData = refl
+value-refused blank r = refl
 
 -- a status with its record beside it
 module _ {A : Type 0} (blank : A) {answer : Outcome A} {beside : A} where

@@ -22,7 +22,7 @@ use Rattle.nitro.specs.Tex.{Contents, hasStamp, headerOf, dataAt, second
 use Rattle.nitro.specs.Tex.{readTexture, readTextures, readPalettes, readTex}
 use Rattle.nitro.specs.declared.errors.Kind.the-variants as kinds
 use Rattle.nitro.specs.declared.tex.Header.{Header}
-use Rattle.nitro.proofs.Runs.{onward, both, bytes-in, bytes-whole, expect-met, expect-failed, expected, outcome-map, outcome-bind}
+use Rattle.nitro.proofs.Runs.{onward, both, bytes-in, bytes-whole, expect-met, expect-failed, expect-held, expected, outcome-map, outcome-bind}
 use Rattle.nitro.proofs.Runs.{outcome-same, each-count, each-done, each-length, each-at, Follows, follows-bind, follows-onward}
 use Rattle.nitro.proofs.Lists.{name-listed}
 
@@ -45,6 +45,13 @@ module _ (b : List ℕ) where
     pub header-read : hasStamp (take 60 b) ≡ true → run readHeader b ≡ whole (headerOf (take 60 b))
     unfolding readHeader run
     header-read e = onward (bytesAt 0 60) _ b (bytes-in 0 60 b within) ∙ expect-met _ badStamp _ b e
+
+  pub header-there : {h : Header} → run readHeader b ≡ whole h → (60 ≤ length b) × (hasStamp (take 60 b) ≡ true)
+  unfolding readHeader
+  header-there e =
+      let o = both (bytesAt 0 60) _ b e in
+      let head = bytes-whole 0 60 b (o .first) in
+      (head .within, rw (sym (head .same)) (expect-held _ badStamp _ b (o .second)))
 
   pub header-whole : {h : Header} → run readHeader b ≡ whole h → h ≡ headerOf (take 60 b)
   unfolding readHeader run

@@ -7,13 +7,12 @@ use native.Mathlib.Nat.{add-zero, add-suc, suc-add, le-of-suc-le-suc, not-suc-le
 use native.Mathlib.Omega.{arith}
 use lib.ListN.{length, take, drop, getD}
 use lib.Dec.{leb}
-use borrow.Author.Tests.{le-leb, lt-leb, leb-true}
+use borrow.Author.Tests.{le-leb, lt-leb, leb-true, leb-false}
 use Rattle.util.specs.Outcome.{Outcome, result, refusal}
 use Rattle.nitro.specs.Refusal.{Fault, faultNumber, refusalOutcome}
 use Rattle.nitro.specs.Script.{Script, done, refuse, get, Answer, short, fault, whole, run, outcomeOf, bytesAt, expect, eachFrom}
 use Rattle.nitro.specs.Script.{_>>=_, _>>_}
 use Rattle.nitro.specs.declared.errors.Refusal.{Refusal}
-use Rattle.nitro.specs.declared.errors.Refusal.the-variants.{Short, Stamp, Dummy, DatumSize, Number, NoPalette, NoTexels, Output, ShortData}
 
 -- an answer, and then the next
 abbrev pub andThen : {A B : Type 0} → Answer A → (A → Answer B) → Answer B
@@ -62,6 +61,17 @@ module _ {A : Type 0} (p n : ℕ) (next : List ℕ → Script A) (b : List ℕ) 
   unfolding run
   run-out h = rw (lt-leb _ _ h)
 
+-- a run is short only of a length that the block does not have
+pub run-short : {A : Type 0} (s : Script A) (b : List ℕ) {w : ℕ} → run s b ≡ short w → length b < w
+unfolding run
+run-short (done a) b e = let z : _≡_ {A = ℕ} 0 1 = cc in absurd (omega arith)
+run-short (refuse found) b e = let z : _≡_ {A = ℕ} 0 1 = cc in absurd (omega arith)
+run-short (get p n next) b {w} e = go (leb (p + n) (length b)) refl (λ q. run-short (next (take n (drop p b))) b q)
+  where
+    go : (t : Bool) → leb (p + n) (length b) ≡ t → (run (next (take n (drop p b))) b ≡ short w → length b < w) → length b < w
+    go true q later = later (rw q at e)
+    go false q later = let same : p + n ≡ w = cc (rw q at e) in omega (arith, leb-false (p + n) (length b) q, same)
+
 -- n bytes at p
 module _ (p n : ℕ) (b : List ℕ) where
   pub bytes-in : p + n ≤ length b → run (bytesAt p n) b ≡ whole (take n (drop p b))
@@ -94,13 +104,15 @@ module _ {B : Type 0} (test : Bool) (found : Fault) (rest : Script B) (b : List 
   unfolding run _>>_ _>>=_ expect
   expect-failed e = rw e
 
-  pub expected : {end : B} → run (expect test found >> rest) b ≡ whole end → run rest b ≡ whole end
-  unfolding run _>>_ _>>=_ expect
-  expected {end} e = go test refl
+  pub expect-held : {end : B} → run (expect test found >> rest) b ≡ whole end → test ≡ true
+  expect-held {end} e = go test refl
     where
-      go : (t : Bool) → test ≡ t → run rest b ≡ whole end
-      go true q = rw q at e
-      go false q = let z : _≡_ {A = ℕ} 0 1 = cc (rw q at e) in absurd (omega arith)
+      go : (t : Bool) → test ≡ t → test ≡ true
+      go true q = q
+      go false q = let z : _≡_ {A = ℕ} 0 1 = cc (sym (expect-failed q) ∙ e) in absurd (omega arith)
+
+  pub expected : {end : B} → run (expect test found >> rest) b ≡ whole end → run rest b ≡ whole end
+  expected e = sym (expect-met (expect-held e)) ∙ e
 
 -- the outcome of an answer that is known
 module _ {A B : Type 0} {x : Answer A} (h : A → Outcome B) where
@@ -225,27 +237,11 @@ ended (whole a) g e = record { end = a; is = refl; gives = cc }
 
 -- a refusal in the code is never a result, and is the same whatever would have been answered
 pub refusal-not : {A : Type 0} {a : A} (r : Refusal) → refusalOutcome r ≡ result a → ⊥
-refusal-not (Short w) e = let z : _≡_ {A = ℕ} 0 1 = cc in omega arith
-refusal-not Stamp e = let z : _≡_ {A = ℕ} 0 1 = cc in omega arith
-refusal-not (Dummy k) e = let z : _≡_ {A = ℕ} 0 1 = cc in omega arith
-refusal-not (DatumSize k) e = let z : _≡_ {A = ℕ} 0 1 = cc in omega arith
-refusal-not (Number k) e = let z : _≡_ {A = ℕ} 0 1 = cc in omega arith
-refusal-not NoPalette e = let z : _≡_ {A = ℕ} 0 1 = cc in omega arith
-refusal-not NoTexels e = let z : _≡_ {A = ℕ} 0 1 = cc in omega arith
-refusal-not Output e = let z : _≡_ {A = ℕ} 0 1 = cc in omega arith
-refusal-not ShortData e = let z : _≡_ {A = ℕ} 0 1 = cc in omega arith
+refusal-not r e = let z : _≡_ {A = ℕ} 0 1 = cc in omega arith
 
 pub refusal-any : {A B : Type 0} {k v : ℕ} (r : Refusal)
     → _≡_ {A = Outcome A} (refusalOutcome r) (refusal k v) → _≡_ {A = Outcome B} (refusalOutcome r) (refusal k v)
-refusal-any (Short w) e = cc
-refusal-any Stamp e = cc
-refusal-any (Dummy k) e = cc
-refusal-any (DatumSize k) e = cc
-refusal-any (Number k) e = cc
-refusal-any NoPalette e = cc
-refusal-any NoTexels e = cc
-refusal-any Output e = cc
-refusal-any ShortData e = cc
+refusal-any r e = cc
 
 -- so a refusal of x is y's, whatever either makes of its end
 module _ {A B C D : Type 0} (x : Answer A) (y : Answer B) (follows : Follows x y) (g : A → C) (h : B → Outcome D) (r : Refusal) where

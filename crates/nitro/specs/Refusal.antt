@@ -30,19 +30,33 @@ abbrev pub absentNumber : Kind → ℕ
 absentNumber Texture = 7
 absentNumber Palette = 8
 
--- 01's number and value of each case of the code's `Refusal`. "take is short", 1, returned the want; "formats 1 to 6, no palette
--- chosen", 9; "format 0", 10; "output shorter than the result", 11; "data (second too, for 5) shorter than the word says", 12. Every row
--- but the first returns 0.
+-- 01's number of each case of the code's `Refusal`. "take is short", 1; "formats 1 to 6, no palette chosen", 9; "format 0", 10; "output
+-- shorter than the result", 11; "data (second too, for 5) shorter than the word says", 12.
+abbrev pub refusalNumber : Refusal → ℕ
+refusalNumber (Short needed) = 1
+refusalNumber Stamp = faultNumber badStamp
+refusalNumber (Dummy kind) = faultNumber (badDummy kind)
+refusalNumber (DatumSize kind) = faultNumber (badSize kind)
+refusalNumber (Number kind) = absentNumber kind
+refusalNumber NoPalette = 9
+refusalNumber NoTexels = 10
+refusalNumber Output = 11
+refusalNumber ShortData = 12
+
+-- And its value: "take is short" returns the want, and every other row 0.
+abbrev pub refusalReturned : Refusal → ℕ
+refusalReturned (Short needed) = needed
+refusalReturned Stamp = 0
+refusalReturned (Dummy kind) = 0
+refusalReturned (DatumSize kind) = 0
+refusalReturned (Number kind) = 0
+refusalReturned NoPalette = 0
+refusalReturned NoTexels = 0
+refusalReturned Output = 0
+refusalReturned ShortData = 0
+
 abbrev pub refusalOutcome : {A : Type 0} → Refusal → Outcome A
-refusalOutcome (Short needed) = refusal 1 needed
-refusalOutcome Stamp = refusal (faultNumber badStamp) 0
-refusalOutcome (Dummy kind) = refusal (faultNumber (badDummy kind)) 0
-refusalOutcome (DatumSize kind) = refusal (faultNumber (badSize kind)) 0
-refusalOutcome (Number kind) = refusal (absentNumber kind) 0
-refusalOutcome NoPalette = refusal 9 0
-refusalOutcome NoTexels = refusal 10 0
-refusalOutcome Output = refusal 11 0
-refusalOutcome ShortData = refusal 12 0
+refusalOutcome r = refusal (refusalNumber r) (refusalReturned r)
 
 -- The code's answers that hold nothing, or a number, beside the refusal.
 abbrev pub statusOutcome : Status → Outcome (Unit {0})

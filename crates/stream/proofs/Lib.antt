@@ -1,0 +1,5 @@
+pub mod Calls
+pub mod Counts
+pub mod Examples
+pub mod Fetches
+pub mod Prefixes

@@ -1,0 +1,45 @@
+-- The law on early runs, for every call that takes a block. Assumes nothing.
+use Prim.Native.Nat.{ℕ, _≤_}
+use mathlib.Core.List.{List}
+use native.Mathlib.Omega.{arith}
+use lib.ListN.{length, take}
+use Rattle.util.specs.Outcome.{Outcome}
+use Rattle.nitro.specs.Script.{Script}
+use Rattle.nitro.proofs.Early.{early-settled, early-waits}
+use Rattle.nitro.proofs.Runs.{run-short}
+use Rattle.stream.specs.Prefix.{Prefix, PrefixLaws}
+use Rattle.stream.proofs.Calls.{Scripted, list-scripted, reading-scripted, texture-scripted, palette-scripted, data1-scripted}
+use Rattle.stream.proofs.Calls.{data2-scripted, pal-block-scripted, locate-scripted, picture-scripted}
+
+-- from the law on scripts, for every call that goes by what a script comes to
+module _ {A B C : Type 0} (s : Script A) {answer : List ℕ → Outcome B} {beside : List ℕ → C} {declined : C} where
+  pub prefix-law : Scripted s answer beside declined → Prefix answer beside declined
+  prefix-law call b n h = record {
+    settled = λ never. call .same b n up-to (early-settled s b n up-to (λ w e. never w (call .at-short (take n b) w e .0)) .0);
+    short =
+        λ w e.
+        let stopped = call .only-short (take n b) w e in (
+          call .at-short (take n b) w stopped .1,
+          (
+            (λ full. run-short s b (call .only-short b w full)),
+            (λ fewer. call .at-short b w (early-waits s b n up-to stopped .out fewer .0) .0),
+          ),
+        );
+  }
+    where
+      up-to : n ≤ length b
+      up-to = omega (arith, h)
+
+-- and so for each
+pub prefix-laws : PrefixLaws
+prefix-laws = record {
+  read = λ kind pos. prefix-law _ (list-scripted kind pos);
+  read-tex = prefix-law _ reading-scripted;
+  texture = λ i. prefix-law _ (texture-scripted i);
+  palette = λ i. prefix-law _ (palette-scripted i);
+  texture-data1 = λ i. prefix-law _ (data1-scripted i);
+  texture-data2 = λ i. prefix-law _ (data2-scripted i);
+  pal-block = prefix-law _ pal-block-scripted;
+  locate = λ i choice. prefix-law _ (locate-scripted i choice);
+  picture = λ i choice output. prefix-law _ (picture-scripted i choice output);
+}

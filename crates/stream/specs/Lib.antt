@@ -1,0 +1,2 @@
+pub mod Fetch
+pub mod Prefix
