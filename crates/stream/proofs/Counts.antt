@@ -2,20 +2,21 @@
 use Prim.Native.Nat.{ℕ, zero, suc, _+_, _*_, _≤_}
 use mathlib.Core.Path.{_≡_, refl, ap, _∙_, subst}
 use mathlib.Core.Bool.{Bool, true, false}
-use mathlib.Core.List.{List, [], _∷_}
+use mathlib.Core.List.{List, [], _∷_, _++_}
 use native.Mathlib.Nat.{zero-mul, mul-suc}
 use native.Mathlib.Omega.{arith}
-use lib.ListN.{length, take, drop}
+use lib.ListN.{length, take, drop, replicate}
 use lib.Dec.{leb, ltb, eqb}
 use borrow.Author.Tests.{le-leb}
 use Rattle.util.specs.Number.{numberAt}
 use Rattle.util.proofs.Numbers.{number-in-part}
-use Rattle.nds.specs.Params.{format}
+use Rattle.nds.specs.Params.{width, height, format}
+use Rattle.nds.specs.Formats.{dataLength}
 use Rattle.nitro.specs.Refusal.{Fault}
 use Rattle.nitro.specs.Script.{Script, done, refuse, get, whole, run, ends, records, bytesAt, expect, eachFrom, _>>=_, _>>_}
 use Rattle.nitro.specs.InfoBlock.{NameList, wholeList, nameList}
-use Rattle.nitro.specs.Tex.{hasStamp, headerOf, paletteAt, readHeader, readPalBlock, readSecond, readData, readTexture, readTextures}
-use Rattle.nitro.specs.Tex.{readPalettes, readTex}
+use Rattle.nitro.specs.Tex.{hasStamp, headerOf, dataAt, secondAt, paletteAt, readHeader, readPalBlock, readSecond, readData, readTexture}
+use Rattle.nitro.specs.Tex.{readTextures, readPalettes, readTex}
 use Rattle.nitro.specs.declared.errors.Kind.{Kind}
 use Rattle.nitro.specs.declared.errors.Kind.the-variants as kinds
 use Rattle.nitro.proofs.Runs.{both, bytes-whole}
@@ -171,3 +172,35 @@ module _ (b : List ℕ) where
 pub bound : (b : List ℕ) → shortAnswers b ≤ 6 + 2 * textureCount b
 unfolding shortAnswers
 bound b = omega (arith, records-most 0 (ends readTex b), tests-all b .most)
+
+-- A block of 152 bytes with one texture of format 5, 8 by 8, and no palette, in which each length tested is larger than all before.
+unfoldable pub rising : List ℕ
+rising =
+    (0x54 ∷ 0x45 ∷ 0x58 ∷ 0x30 ∷ [])  -- 0 to 3: the stamp `TEX0`
+    ++ replicate 10 0  -- 4 to 13
+    ++ (68 ∷ 0 ∷ [])  -- 14, 15: `texture_off`
+    ++ replicate 20 0  -- 16 to 35
+    ++ (112 ∷ 0 ∷ 0 ∷ 0 ∷ [])  -- 36 to 39: `compressed1_block_off`
+    ++ (128 ∷ 0 ∷ 0 ∷ 0 ∷ [])  -- 40 to 43: `compressed2_block_off`
+    ++ replicate 4 0  -- 44 to 47
+    ++ (1 ∷ 0 ∷ [])  -- 48, 49: `pal_block_len_shr_3`
+    ++ replicate 2 0  -- 50, 51
+    ++ (136 ∷ 0 ∷ 0 ∷ 0 ∷ [])  -- 52 to 55: `palette_off`
+    ++ (60 ∷ 0 ∷ 0 ∷ 0 ∷ [])  -- 56 to 59: `pal_block_off`
+    ++ replicate 8 0  -- 60 to 67: the palette block
+    ++ (0 ∷ 1 ∷ [])  -- 68, 69: the texture list's dummy and count
+    ++ replicate 14 0  -- 70 to 83
+    ++ (8 ∷ 0 ∷ [])  -- 84, 85: its datum size
+    ++ replicate 2 0  -- 86, 87
+    ++ (0 ∷ 0 ∷ 0 ∷ 0x14 ∷ [])  -- 88 to 91: the word
+    ++ replicate 20 0  -- 92 to 111
+    ++ replicate 24 0  -- 112 to 135: first and second data
+    ++ replicate 12 0  -- 136 to 147: the palette list, with no palette
+    ++ (4 ∷ 0 ∷ [])  -- 148, 149: its datum size
+    ++ replicate 2 0  -- 150, 151
+
+-- so the bound is reached, and no smaller one holds
+pub bound-reached : (textureCount rising ≡ 1) × (shortAnswers rising ≡ 6 + 2 * 1)
+unfolding shortAnswers textureCount rising width height dataLength numberAt run ends records bytesAt expect eachFrom _>>=_ _>>_
+    wholeList nameList headerOf dataAt secondAt readHeader readPalBlock readSecond readData readTexture readTextures readPalettes readTex
+bound-reached = (refl, refl)

@@ -13,7 +13,7 @@ use Rattle.nitro.specs.Tex.{readTex}
 use Rattle.nitro.proofs.Early.{early-settled, early-waits}
 use Rattle.stream.specs.Fetch.{shortness, shortAnswers, Fetched}
 use Rattle.stream.specs.Prefix.{Prefix}
-use Rattle.stream.specs.declared.fetch.Shortness.the-variants.{Needs, Enough}
+use Rattle.stream.specs.declared.shortness.Shortness.the-variants.{Needs, Enough}
 use Rattle.stream.proofs.Calls.{Scripted, NotShort}
 use Rattle.stream.proofs.Counts.{bound}
 
@@ -96,4 +96,4 @@ module _ {B C : Type 0} {answer : List ℕ → Outcome B} {beside : List ℕ →
       }
 
 pub fetched : {full : Type 0} (b : List ℕ) {count : ℕ} → full → count ≡ shortAnswers b → Fetched full b count
-fetched b f c = record { ended = f; counted = c; bounded = rw c (bound b) }
+fetched b f c = record { ended = f; counted = c; bounded = omega (arith, c, bound b) }

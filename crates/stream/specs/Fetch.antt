@@ -9,8 +9,8 @@ use Rattle.util.specs.Number.{numberAt}
 use Rattle.util.specs.Outcome.{Outcome, result, refusal}
 use Rattle.nitro.specs.Script.{ends, records}
 use Rattle.nitro.specs.Tex.{hasStamp, headerOf, readTex}
-use Rattle.stream.specs.declared.fetch.Shortness.{Shortness}
-use Rattle.stream.specs.declared.fetch.Shortness.the-variants.{Needs, Enough}
+use Rattle.stream.specs.declared.shortness.Shortness.{Shortness}
+use Rattle.stream.specs.declared.shortness.Shortness.the-variants.{Needs, Enough}
 
 -- Whether an answer is short, which is refusal 1, and then its want.
 abbrev pub shortness : {A : Type 0} → Outcome A → Shortness

@@ -1,7 +1,7 @@
--- `stream::fetch::reading_shortness` meets its contract: by the reading's case. Assumes nothing.
+-- `stream::shortness::reading_shortness` meets its contract: by the reading's case. Assumes nothing.
 use borrow.Author.Needs.{needs}
-use Rattle.stream.proofs.fetch.reading_shortness.Statement.{statement}
-use Rattle.stream.proofs.fetch.reading_shortness.Tie as tie
+use Rattle.stream.proofs.shortness.reading_shortness.Statement.{statement}
+use Rattle.stream.proofs.shortness.reading_shortness.Tie as tie
 
 enum-told : tie.Need-enum-told
 enum-told c = search needs

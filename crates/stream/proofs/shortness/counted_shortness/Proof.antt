@@ -1,7 +1,7 @@
--- `stream::fetch::counted_shortness` meets its contract: by the answer's case. Assumes nothing.
+-- `stream::shortness::counted_shortness` meets its contract: by the answer's case. Assumes nothing.
 use borrow.Author.Needs.{needs}
-use Rattle.stream.proofs.fetch.counted_shortness.Statement.{statement}
-use Rattle.stream.proofs.fetch.counted_shortness.Tie as tie
+use Rattle.stream.proofs.shortness.counted_shortness.Statement.{statement}
+use Rattle.stream.proofs.shortness.counted_shortness.Tie as tie
 
 enum-told : tie.Need-enum-told
 enum-told c = search needs

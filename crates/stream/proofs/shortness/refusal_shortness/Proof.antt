@@ -1,4 +1,4 @@
--- `stream::fetch::refusal_shortness` meets its contract: by the refusal's case. Assumes nothing.
+-- `stream::shortness::refusal_shortness` meets its contract: by the refusal's case. Assumes nothing.
 use Prim.Native.Nat.{ℕ}
 use mathlib.Core.Path.{_≡_, refl}
 use mathlib.Core.List.{[], _∷_}
@@ -11,9 +11,9 @@ use Rattle.nitro.specs.declared.errors.Refusal.{Refusal}
 use Rattle.nitro.specs.declared.errors.Refusal.the-variants.{Short, Stamp, Dummy, DatumSize, Number, NoPalette, NoTexels, Output, ShortData}
 use Rattle.nitro.proofs.errors.Refusal.{the-type}
 use Rattle.stream.specs.Fetch.{shortness}
-use Rattle.stream.specs.declared.fetch.Shortness.the-variants.{Enough}
-use Rattle.stream.proofs.fetch.refusal_shortness.Statement.{statement}
-use Rattle.stream.proofs.fetch.refusal_shortness.Tie as tie
+use Rattle.stream.specs.declared.shortness.Shortness.the-variants.{Enough}
+use Rattle.stream.proofs.shortness.refusal_shortness.Statement.{statement}
+use Rattle.stream.proofs.shortness.refusal_shortness.Tie as tie
 
 enum-known-refusal : tie.Need-enum-known-refusal
 enum-known-refusal c = search needs

@@ -1,4 +1,4 @@
--- `stream::fetch::fetch_tex` meets its contract: the loop keeps what is left to count. Assumes nothing.
+-- `stream::fetch_tex::fetch_tex` meets its contract: the loop keeps what is left to count. Assumes nothing.
 use Prim.Native.Nat.{_-_}
 use mathlib.Core.Path.{sym}
 use native.Mathlib.Omega.{arith}
@@ -13,8 +13,8 @@ use Rattle.stream.specs.Prefix.{nothing}
 use Rattle.stream.proofs.Calls.{reading-scripted}
 use Rattle.stream.proofs.Fetches.{Fetching, fetch-start, Waiting, settled, waiting, fetched}
 use Rattle.stream.proofs.Prefixes.{prefix-laws}
-use Rattle.stream.proofs.fetch.fetch_tex.Statement.{statement}
-use Rattle.stream.proofs.fetch.fetch_tex.Tie as tie
+use Rattle.stream.proofs.fetch_tex.fetch_tex.Statement.{statement}
+use Rattle.stream.proofs.fetch_tex.fetch_tex.Tie as tie
 
 abbrev Inv-loop : tie.InvT-loop
 Inv-loop block len given₀ short-answers₀ given short-answers = Fetching block given short-answers
@@ -69,13 +69,13 @@ add-short-answers c =
     record { fits = omega (arith, l .loop .inv .within, l .loop .inv .below) }
 
 returns-2 : tie.Need-returns-2 Inv-loop μ-loop
-returns-2 c = let end = short-attempt (c .before) .beyond (c .if1 .taken) in fetched _ (end .full) (omega (arith, end .counted))
+returns-2 c = let end = short-attempt (c .before) .beyond (omega (arith, c .if1 .taken)) in fetched _ (end .full) (omega (arith, end .counted))
+
+loop-again : tie.Need-loop-again Inv-loop μ-loop
+loop-again c = short-attempt (c .before) .again (omega (arith, c .if1 .left)) (omega arith) (omega arith)
 
 loop-less : tie.Need-loop-less Inv-loop μ-loop
 loop-less c = omega (arith, c .if1 .left, short-attempt (c .before) .past)
-
-loop-again : tie.Need-loop-again Inv-loop μ-loop
-loop-again c = short-attempt (c .before) .again (c .if1 .left) (omega arith) (omega arith)
 
 pub fetch-tex-spec : {M : Type 1} → statement M
 fetch-tex-spec =

@@ -1,0 +1,46 @@
+// Fetching a reading: the call over a whole block, lent no more of it than an answer before has asked for.
+use crate::shortness::Shortness;
+use crate::shortness::reading_shortness;
+use nitro::tex::Reading;
+use nitro::tex::read_tex;
+ghost use mathlib.Core.Path.{_≡_};
+ghost use Rattle.nitro.specs.Script.{run};
+ghost use Rattle.nitro.specs.Tex as Tex;
+ghost use Rattle.nitro.specs.Calls as Calls;
+ghost use Rattle.stream.specs.Fetch.{Fetched};
+
+pub struct FetchedTex {
+    // The last answer.
+    pub reading: Reading,
+    // How many answers were short, the last included.
+    pub short_answers: usize,
+}
+
+// Reads the block's first 0 bytes, then as many as the last answer needed, until an answer is not short or needs more than the block has.
+pub fn fetch_tex(block: &[u8]) -> FetchedTex
+    ensures { λ r. ⌜ Fetched (Calls.readingOutcome (r .reading) ≡ Calls.readingOf (run Tex.readTex (now (block .entry)))) (now (block .entry)) (r .«short_answers») ⌝ }
+{
+    let len = block.len();
+    let mut given: usize = 0;
+    let mut short_answers: usize = 0;
+    loop {
+        let reading = read_tex(&block[..given]);
+        let needed = match reading_shortness(reading) {
+            Shortness::Needs(needed) => needed,
+            Shortness::Enough => {
+                return FetchedTex {
+                    reading,
+                    short_answers,
+                };
+            }
+        };
+        short_answers += 1;
+        if needed > len {
+            return FetchedTex {
+                reading,
+                short_answers,
+            };
+        }
+        given = needed;
+    }
+}
