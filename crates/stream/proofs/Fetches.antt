@@ -11,7 +11,7 @@ use Rattle.util.specs.Outcome.{Outcome, result, refusal}
 use Rattle.nitro.specs.Script.{short, ends, records}
 use Rattle.nitro.specs.Tex.{readTex}
 use Rattle.nitro.proofs.Early.{early-settled, early-waits}
-use Rattle.stream.specs.Fetch.{shortness, shortAnswers, Fetched}
+use Rattle.stream.specs.Fetch.{shortness, Call, shortAnswers, Fetched}
 use Rattle.stream.specs.Prefix.{Prefix}
 use Rattle.stream.specs.declared.shortness.Shortness.the-variants.{Needs, Enough}
 use Rattle.stream.proofs.Calls.{Scripted, NotShort}
@@ -95,5 +95,6 @@ module _ {B C : Type 0} {answer : List ℕ → Outcome B} {beside : List ℕ →
         });
       }
 
-pub fetched : {full : Type 0} (b : List ℕ) {count : ℕ} → full → count ≡ shortAnswers b → Fetched full b count
-fetched b f c = record { ended = f; counted = c; bounded = omega (arith, c, bound b) }
+module _ {A B : Type 0} (call : Call A B) (b : List ℕ) {output left : B} {last : Outcome A} {count : ℕ} where
+  pub fetched : last ≡ call .answer b output → left ≡ call .leaves b output → count ≡ shortAnswers b → Fetched call b output last left count
+  fetched a l c = record { answered = a; leaving = l; counted = c; bounded = omega (arith, c, bound b) }

@@ -11,7 +11,7 @@ ghost use Rattle.nitro.specs.Tex as Tex;
 ghost use Rattle.nitro.specs.Refusal.{countedOutcome};
 ghost use Rattle.nitro.specs.Output.{Writes};
 ghost use Rattle.decode.specs.Pictures as Pictures;
-ghost use Rattle.stream.specs.Fetch.{Fetched};
+ghost use Rattle.stream.specs.Fetch.{Fetched, pictureCall};
 
 pub struct FetchedPicture {
     // The last answer.
@@ -36,7 +36,7 @@ pub fn fetch_picture(
     choice: PaletteChoice,
     out: &mut [u8],
 ) -> FetchedPicture
-    ensures { λ r. ⌜ Fetched (Writes (Pictures.pictureOf n choice (run Tex.readTex (now (block .entry)))) (now (out .entry)) (countedOutcome (r .picture)) (now (out .exit))) (now (block .entry)) (r .«short_answers») ⌝ }
+    ensures { λ r. ⌜ Fetched (pictureCall n choice) (now (block .entry)) (now (out .entry)) (countedOutcome (r .picture)) (now (out .exit)) (r .«short_answers») ⌝ }
 {
     let len = block.len();
     let mut given: usize = 0;

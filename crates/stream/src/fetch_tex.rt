@@ -3,11 +3,8 @@ use crate::shortness::Shortness;
 use crate::shortness::reading_shortness;
 use nitro::tex::Reading;
 use nitro::tex::read_tex;
-ghost use mathlib.Core.Path.{_≡_};
-ghost use Rattle.nitro.specs.Script.{run};
-ghost use Rattle.nitro.specs.Tex as Tex;
-ghost use Rattle.nitro.specs.Calls as Calls;
-ghost use Rattle.stream.specs.Fetch.{Fetched};
+ghost use Rattle.nitro.specs.Calls.{readingOutcome};
+ghost use Rattle.stream.specs.Fetch.{Fetched, readingCall};
 
 pub struct FetchedTex {
     // The last answer.
@@ -18,7 +15,7 @@ pub struct FetchedTex {
 
 // Reads the block's first 0 bytes, then as many as the last answer needed, until an answer is not short or needs more than the block has.
 pub fn fetch_tex(block: &[u8]) -> FetchedTex
-    ensures { λ r. ⌜ Fetched (Calls.readingOutcome (r .reading) ≡ Calls.readingOf (run Tex.readTex (now (block .entry)))) (now (block .entry)) (r .«short_answers») ⌝ }
+    ensures { λ r. ⌜ Fetched readingCall (now (block .entry)) tt (readingOutcome (r .reading)) tt (r .«short_answers») ⌝ }
 {
     let len = block.len();
     let mut given: usize = 0;

@@ -10,6 +10,7 @@ use Rattle.nitro.specs.Tex.{readTex}
 use Rattle.nitro.specs.Refusal.{countedOutcome}
 use Rattle.nitro.specs.Output.{writeOutcome, writeOutput, Writes}
 use Rattle.decode.specs.Pictures.{pictureOf}
+use Rattle.stream.specs.Fetch.{pictureCall}
 use Rattle.stream.proofs.Calls.{picture-scripted}
 use Rattle.stream.proofs.Fetches.{Fetching, fetch-start, Waiting, settled, waiting, fetched}
 use Rattle.stream.proofs.Prefixes.{prefix-laws}
@@ -58,7 +59,7 @@ returns c =
     settled (picture-scripted (a .n) (a .choice) (now (a .out))) (prefix-laws .picture (a .n) (a .choice) (now (a .out))) _ (l .loop .inv .1)
     (attempted tried .outcome)
     (rw (c .enum-told .given .1) at (told .counted-shortness .ensures)) in
-    fetched _ (record { outcome = end .full; output = attempted tried .output ∙ end .left }) (omega (arith, end .counted))
+    fetched (pictureCall _ _) _ (end .full) (attempted tried .output ∙ end .left) (omega (arith, end .counted))
 
 -- an attempt that is short
 short-attempt : (c : tie.After-known-told Inv-loop μ-loop)
@@ -94,7 +95,7 @@ returns-2 : tie.Need-returns-2 Inv-loop μ-loop
 returns-2 c =
     let tried = c .before .before .before .before .before .before .before in
     let end = short-attempt (c .before) .beyond (omega (arith, c .if1 .taken)) in
-    fetched _ (record { outcome = end .full; output = attempted tried .output ∙ end .left }) (omega (arith, end .counted))
+    fetched (pictureCall _ _) _ (end .full) (attempted tried .output ∙ end .left) (omega (arith, end .counted))
 
 loop-again : tie.Need-loop-again Inv-loop μ-loop
 loop-again c =

@@ -1,6 +1,6 @@
 -- `stream::fetch_tex::fetch_tex` meets its contract: the loop keeps what is left to count. Assumes nothing.
 use Prim.Native.Nat.{_-_}
-use mathlib.Core.Path.{sym}
+use mathlib.Core.Path.{refl, sym}
 use native.Mathlib.Omega.{arith}
 use lib.ListN.{length}
 use lib.Seq.{length-take-le}
@@ -9,6 +9,7 @@ use borrow.Author.Needs.{needs}
 use Rattle.nitro.specs.Script.{run}
 use Rattle.nitro.specs.Tex.{readTex}
 use Rattle.nitro.specs.Calls.{readingOf, readingOutcome}
+use Rattle.stream.specs.Fetch.{readingCall}
 use Rattle.stream.specs.Prefix.{nothing}
 use Rattle.stream.proofs.Calls.{reading-scripted}
 use Rattle.stream.proofs.Fetches.{Fetching, fetch-start, Waiting, settled, waiting, fetched}
@@ -47,7 +48,7 @@ returns c =
     let end =
     settled reading-scripted (prefix-laws .read-tex) _ (attempt .before .before .loop .inv) (attempt .read-tex .ensures)
     (rw (c .enum-told .given .1) at (told .reading-shortness .ensures)) in
-    fetched _ (end .full) (omega (arith, end .counted))
+    fetched readingCall _ (end .full) refl (omega (arith, end .counted))
 
 -- an attempt that is short
 short-attempt : (c : tie.After-known-told Inv-loop μ-loop)
@@ -69,7 +70,9 @@ add-short-answers c =
     record { fits = omega (arith, l .loop .inv .within, l .loop .inv .below) }
 
 returns-2 : tie.Need-returns-2 Inv-loop μ-loop
-returns-2 c = let end = short-attempt (c .before) .beyond (omega (arith, c .if1 .taken)) in fetched _ (end .full) (omega (arith, end .counted))
+returns-2 c =
+    let end = short-attempt (c .before) .beyond (omega (arith, c .if1 .taken)) in
+    fetched readingCall _ (end .full) refl (omega (arith, end .counted))
 
 loop-again : tie.Need-loop-again Inv-loop μ-loop
 loop-again c = short-attempt (c .before) .again (omega (arith, c .if1 .left)) (omega arith) (omega arith)
