@@ -66,8 +66,8 @@ textureCount block =
     (numberAt 1 (h .«texture_off» + 1) block)
     0
 
--- "What demand 3 says of a fetching run is one claim about the whole call: its last answer, its count and the output it leaves." The first
--- two are the full run's, and the bound is demand 3's: "at most 6 + 2t, t being the texture count, or 0 if never read".
+-- "What demand 3 says of a fetching run is one claim about the whole call: its last answer, its count and the output it leaves." Answer and
+-- output are the full run's. The bound is demand 3's: "at most 6 + 2t, t being the texture count, or 0 if never read".
 pub record Fetched {A B : Type 0} (call : Call A B) (block : List ℕ) (output : B) (last : Outcome A) (left : B) (count : ℕ) : Type 0 where
   pub answered : last ≡ call .answer block output
   pub leaving : left ≡ call .leaves block output
