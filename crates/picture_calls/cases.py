@@ -133,7 +133,7 @@ def checksum(out):
 
 def line(case):
     title, call, arguments, room = case
-    out = bytes(i % 251 for i in range(room))
+    out = bytes(1 + i % 251 for i in range(room))
     try:
         got = call(*arguments, out)
     except Refused as r:

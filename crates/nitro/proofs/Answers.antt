@@ -45,17 +45,13 @@ module _ {A B : Type 0} (k : Kind) (f : A → B) where
   entry-out (x ∷ xs) zero h = absurd (not-suc-le-zero h)
   entry-out (x ∷ xs) (suc n) h = entry-out xs n (le-of-suc-le-suc h)
 
--- a refusal leaves the blank
-pub value-refused : {A : Type 0} (blank : A) (r : Refusal) → blank ≡ valueOr blank (refusalOutcome r)
-value-refused blank r = refl
-
 -- a status with its record beside it
 module _ {A : Type 0} (blank : A) {answer : Outcome A} {beside : A} where
   pub answers-done : result beside ≡ answer → Answers blank answer Done beside
   answers-done e = record { outcome = e; value = ap (valueOr blank) e }
 
   pub answers-refused : (r : Refusal) → beside ≡ blank → refusalOutcome r ≡ answer → Answers blank answer (Refused r) beside
-  answers-refused r b e = record { outcome = e; value = b ∙ (value-refused blank r ∙ ap (valueOr blank) e) }
+  answers-refused r b e = record { outcome = e; value = b ∙ ap (valueOr blank) e }
 
 -- a layout that was found: the reading finished, and its list has the entry
 pub record Found (k : Kind) (n : ℕ) (b : List ℕ) (a : Answer Contents) (l : Layout) : Type 0 where

@@ -78,11 +78,11 @@ fn field(bytes: &[u8], pos: usize) -> u32 {
     }
 }
 
-// Fills the output with bytes that tell their places.
+// Fills the output with bytes that tell their places, none of them 0.
 fn fill(out: &mut [u8]) {
     let mut i = 0;
     while i < out.len() {
-        out[i] = (i % 251) as u8;
+        out[i] = (1 + i % 251) as u8;
         i += 1;
     }
 }

@@ -1,6 +1,6 @@
 -- `picture_calls::fill` meets its contract. Assumes nothing.
-use mathlib.Core.Path.{_≡_}
 use Prim.Native.Nat.{_-_, _≤_}
+use mathlib.Core.Path.{_≡_}
 use lib.ListN.{length, length-set}
 use borrow.Author.Needs.{needs}
 use Rattle.picture_calls.proofs.fill.Statement.{statement}
@@ -14,6 +14,9 @@ abbrev μ-loop : tie.MeasureT-loop
 
 loop-holds : tie.Need-loop-holds Inv-loop μ-loop
 loop-holds c = search needs
+
+add-out : tie.Need-add-out Inv-loop μ-loop
+add-out c = search needs
 
 cast-out : tie.Need-cast-out Inv-loop μ-loop
 cast-out c = search needs
@@ -43,6 +46,7 @@ fill-spec =
     Inv-loop
     μ-loop
     loop-holds
+    add-out
     cast-out
     slice-write-out
     add-i

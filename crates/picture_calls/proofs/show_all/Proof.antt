@@ -1,6 +1,6 @@
 -- `picture_calls::show_all` meets its contract: the number of cases has 32 bits, so a case's position fits. Assumes nothing.
-use mathlib.Core.Path.{_≡_}
 use Prim.Native.Nat.{_-_, _≤_, _<_}
+use mathlib.Core.Path.{_≡_}
 use lib.ListN.{length}
 use borrow.Author.Needs.{needs}
 use Rattle.picture_calls.proofs.show_all.Statement.{statement}

@@ -1,6 +1,6 @@
 -- `stream_calls::fill` meets its contract. Assumes nothing.
-use mathlib.Core.Path.{_≡_}
 use Prim.Native.Nat.{_-_, _≤_}
+use mathlib.Core.Path.{_≡_}
 use lib.ListN.{length, length-set}
 use borrow.Author.Needs.{needs}
 use Rattle.stream_calls.proofs.fill.Statement.{statement}

@@ -1,6 +1,6 @@
 -- `stream_calls::prefixes` meets its contract: the part of the block is as long as it is said to be. Assumes nothing.
-use mathlib.Core.Path.{sym}
 use Prim.Native.Nat.{_-_, _≤_}
+use mathlib.Core.Path.{sym}
 use native.Mathlib.Omega.{arith}
 use lib.ListN.{length}
 use lib.Seq.{length-take-le}

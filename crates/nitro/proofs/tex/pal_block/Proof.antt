@@ -1,7 +1,6 @@
 -- `nitro::tex::pal_block` meets its contract: the reading took the part that is handed out. Assumes nothing.
 use Prim.Native.Nat.{_*_}
 use mathlib.Core.Path.{sym, ap, _∙_}
-use mathlib.Core.List.{[]}
 use denote.Ref.{now}
 use borrow.Author.Needs.{needs}
 use Rattle.util.specs.Take.{takenPart}
@@ -10,7 +9,6 @@ use Rattle.nitro.specs.Layouts.{layoutAnswer}
 use Rattle.nitro.specs.declared.tex.Layout.{Layout}
 use Rattle.nitro.proofs.Runs.{ended, whole-outcome, follows-self, refused}
 use Rattle.nitro.proofs.Readings.{finished, pal-block-whole}
-use Rattle.nitro.proofs.Answers.{value-refused}
 use Rattle.nitro.proofs.tex.pal_block.Statement.{statement}
 use Rattle.nitro.proofs.tex.pal_block.Tie as tie
 
@@ -50,8 +48,7 @@ returns-2 : tie.Need-returns-2
 unfolding palBlockOf layoutAnswer
 returns-2 c =
     let r = c .before .enum-told .given in
-    value-refused [] (r .0 .0)
-    ∙ ap partOf (refused _ _ (follows-self _) _ _ (r .0 .0) (rw (r .1) at (c .before .before .before .lay-out .ensures)))
+    ap partOf (refused _ _ (follows-self _) _ _ (r .0 .0) (rw (r .1) at (c .before .before .before .lay-out .ensures)))
 
 pub pal-block-spec : {M : Type 1} → statement M
 pal-block-spec =

@@ -1,11 +1,10 @@
 -- `nitro::tex::texture_data2` meets its contract: the part is where the layout that was found says. Assumes nothing.
 use mathlib.Core.Path.{sym, ap, _∙_}
-use mathlib.Core.List.{[]}
 use native.Mathlib.Omega.{arith}
 use denote.Ref.{now}
 use borrow.Author.Needs.{needs}
 use Rattle.nitro.specs.Calls.{partOf, data2Of}
-use Rattle.nitro.proofs.Answers.{TextureFound, texture-found, no-texture, value-refused}
+use Rattle.nitro.proofs.Answers.{TextureFound, texture-found, no-texture}
 use Rattle.nitro.proofs.tex.texture_data2.Statement.{statement}
 use Rattle.nitro.proofs.tex.texture_data2.Tie as tie
 
@@ -53,7 +52,7 @@ returns-2 : tie.Need-returns-2
 unfolding data2Of
 returns-2 c =
     let r = c .before .enum-told .given in
-    value-refused [] (r .0 .0) ∙ ap partOf (no-texture _ _ _ (r .0 .0) (rw (r .1) at (c .before .before .before .find .ensures)))
+    ap partOf (no-texture _ _ _ (r .0 .0) (rw (r .1) at (c .before .before .before .find .ensures)))
 
 pub texture-data2-spec : {M : Type 1} → statement M
 texture-data2-spec =
