@@ -44,8 +44,8 @@ NotShort o = (w : ℕ) → o ≡ refusal 1 w → ⊥
 result-not : {A : Type 0} {a : A} → NotShort (result a)
 result-not w e = let z : _≡_ {A = ℕ} 0 1 = cc in omega arith
 
-refusal-not : {A : Type 0} {k v : ℕ} → (k ≡ 1 → ⊥) → NotShort {A = A} (refusal k v)
-refusal-not d w e = d cc
+number-not : {A : Type 0} {k v : ℕ} → (k ≡ 1 → ⊥) → NotShort {A = A} (refusal k v)
+number-not d w e = d cc
 
 fault-not : (found : Fault) → faultNumber found ≡ 1 → ⊥
 fault-not badStamp e = omega (arith, e)
@@ -71,7 +71,7 @@ bind-not o f d g w e = d w (bind-short o f g w e)
 outcome-short : {A B : Type 0} (a : Answer A) (f : A → Outcome B) → ((x : A) → NotShort (f x)) → (w : ℕ) → outcomeOf a f ≡ refusal 1 w → a ≡ short w
 unfolding outcomeOf
 outcome-short (short v) f d w e = cc
-outcome-short (fault found) f d w e = absurd (refusal-not {A = _} (fault-not found) w e)
+outcome-short (fault found) f d w e = absurd (number-not (fault-not found) w e)
 outcome-short (whole x) f d w e = absurd (d x w e)
 
 -- a call that is a function of what the script comes to
@@ -86,8 +86,8 @@ module _ {A B C : Type 0} (s : Script A) (f : Answer A → Outcome B) (g : Answe
 
 entry-not : {A B : Type 0} (k : Kind) (f : A → B) (xs : List A) (n : ℕ) → NotShort (Calls.entry k f xs n)
 unfolding Calls.entry
-entry-not k f [] n w e = refusal-not {A = _} (absent-not k) w e
-entry-not k f (x ∷ xs) zero w e = result-not {A = _} w e
+entry-not k f [] n w e = number-not (absent-not k) w e
+entry-not k f (x ∷ xs) zero w e = result-not w e
 entry-not k f (x ∷ xs) (suc n) w e = entry-not k f xs n w e
 
 -- the calls of `nitro`
@@ -153,9 +153,9 @@ cond-not false d e = e
 ready-not : (word length1 length2 : ℕ) (palette : PaletteOff) → NotShort (ready word length1 length2 palette)
 unfolding ready
 ready-not word length1 length2 palette =
-    cond-not (lacksPalette word palette) (refusal-not {A = Unit {0}} {k = 9} (λ e. omega (arith, e)))
-    (cond-not (eqb (format word) 0) (refusal-not {A = Unit {0}} {k = 10} (λ e. omega (arith, e)))
-    (cond-not (lacksData word length1 length2) (refusal-not {A = Unit {0}} {k = 12} (λ e. omega (arith, e))) (result-not {A = Unit {0}})))
+    cond-not (lacksPalette word palette) (number-not {A = Unit {0}} {k = 9} (λ e. omega (arith, e)))
+    (cond-not (eqb (format word) 0) (number-not {A = Unit {0}} {k = 10} (λ e. omega (arith, e)))
+    (cond-not (lacksData word length1 length2) (number-not {A = Unit {0}} {k = 12} (λ e. omega (arith, e))) (result-not {A = Unit {0}})))
 
 decoded-not : (s : Calls.Sources) → NotShort (decoded s)
 unfolding decoded
@@ -168,7 +168,7 @@ write-short : (made : Outcome (List ℕ)) (output : List ℕ) (w : ℕ) → writ
 unfolding writeOutcome
 write-short (result bytes) output w e =
     absurd
-    (cond-not (leb (length bytes) (length output)) (result-not {A = ℕ}) (refusal-not {A = ℕ} {k = 11} (λ e. omega (arith, e))) w e)
+    (cond-not (leb (length bytes) (length output)) (result-not {A = ℕ}) (number-not {A = ℕ} {k = 11} (λ e. omega (arith, e))) w e)
 write-short (refusal k v) output w e = cc
 
 -- a block that ends before 60

@@ -10,8 +10,10 @@ use borrow.Author.Tests.{eqb-true}
 use Rattle.util.specs.Outcome.{Outcome, result, refusal}
 use Rattle.nitro.specs.Script.{short, ends, records}
 use Rattle.nitro.specs.Tex.{readTex}
+use Rattle.nitro.specs.declared.tex.PaletteChoice.{PaletteChoice}
 use Rattle.nitro.proofs.Early.{early-settled, early-waits}
-use Rattle.stream.specs.Fetch.{shortness, Call, shortAnswers, Fetched}
+use Rattle.nitro.proofs.Outputs.{refused-keeps}
+use Rattle.stream.specs.Fetch.{shortness, Call, shortAnswers, Fetched, pictureCall}
 use Rattle.stream.specs.Prefix.{Prefix}
 use Rattle.stream.specs.declared.shortness.Shortness.the-variants.{Needs, Enough}
 use Rattle.stream.proofs.Calls.{Scripted, NotShort}
@@ -66,20 +68,17 @@ pub record Waiting {B C : Type 0} (answer : List ℕ → Outcome B) (beside : Li
 module _ {B C : Type 0} {answer : List ℕ → Outcome B} {beside : List ℕ → C} {declined : C} (call : Scripted readTex answer beside declined)
     (law : Prefix answer beside declined) (b : List ℕ) {given count : ℕ} (kept : Fetching b given count) {o : Outcome B}
     (is : o ≡ answer (take given b)) where
-  up-to : given ≤ length b
-  up-to = kept .within
-
   pub settled : Enough ≡ shortness o → Ending answer beside b given o count
   settled enough =
-      let at = law b given (omega (arith, up-to)) .settled (λ w e. enough-not enough w (is ∙ e)) in
-      let counts = early-settled readTex b given up-to (λ w e. enough-not enough w (is ∙ call .at-short (take given b) w e .0)) in
+      let at = law b given (omega (arith, kept .within)) .settled (λ w e. enough-not enough w (is ∙ e)) in
+      let counts = early-settled readTex b given (kept .within) (λ w e. enough-not enough w (is ∙ call .at-short (take given b) w e .0)) in
       record { full = is ∙ at .0; left = at .1; counted = omega (arith, kept .left, counts .1) }
 
   pub waiting : {w : ℕ} → Needs w ≡ shortness o → Waiting answer beside declined b given o count w
   waiting {w} needs =
       let short-answer = sym is ∙ needs-short needs in
-      let waits = early-waits readTex b given up-to (call .only-short (take given b) w short-answer) in
-      let at = law b given (omega (arith, up-to)) .short w short-answer in
+      let waits = early-waits readTex b given (kept .within) (call .only-short (take given b) w short-answer) in
+      let at = law b given (omega (arith, kept .within)) .short w short-answer in
       record {
         past = waits .past;
         kept = at .0;
@@ -98,3 +97,8 @@ module _ {B C : Type 0} {answer : List ℕ → Outcome B} {beside : List ℕ →
 module _ {A B : Type 0} (call : Call A B) (b : List ℕ) {output left : B} {last : Outcome A} {count : ℕ} where
   pub fetched : last ≡ call .answer b output → left ≡ call .leaves b output → count ≡ shortAnswers b → Fetched call b output last left count
   fetched a l c = record { answered = a; leaving = l; counted = c; bounded = omega (arith, c, bound b) }
+
+-- a fetching picture that ends in a refusal leaves every byte of the output as it was
+pub fetched-keeps : (n : ℕ) (choice : PaletteChoice) {block output left : List ℕ} {number returned count : ℕ}
+    → Fetched (pictureCall n choice) block output (refusal number returned) left count → left ≡ output
+fetched-keeps n choice f = refused-keeps (record { outcome = f .answered; output = f .leaving })
