@@ -14,7 +14,7 @@ use Rattle.nitro.specs.Script.{Answer, short, fault, whole, run, outcome
 use Rattle.nitro.specs.InfoBlock.{listAt, listLength}
 use Rattle.nitro.specs.Tex as Tex
 use Rattle.nitro.specs.Tex.{Contents, headerOf, readTex}
-use Rattle.nitro.specs.Calls.{Answers, entry, textureEntry, paletteEntry, valueOr, readingOf}
+use Rattle.nitro.specs.Calls.{Answers, entry, textureEntry, paletteEntry, valueOr, readingOf, textureOf, partOf, data1Of, data2Of, palBlockOf}
 use Rattle.nitro.specs.Calls.{Sources, chosenOf, sourcesOf, sourcesAt, placesAt, placesOf}
 use Rattle.nitro.specs.Layouts.{countOf, layoutOf, layoutWith, hasChoice, chosenAt, placesBy}
 use Rattle.nitro.specs.declared.errors.Kind.{Kind}
@@ -44,6 +44,30 @@ module _ {A B : Type 0} (k : Kind) (f : A → B) where
   entry-out [] n h = refl
   entry-out (x ∷ xs) zero h = absurd (not-suc-le-zero h)
   entry-out (x ∷ xs) (suc n) h = entry-out xs n (le-of-suc-le-suc h)
+
+-- what is made of an entry does not matter to whether it is there
+entry-absent : {A B C : Type 0} (k : Kind) (f : A → B) (g : A → C) (xs : List A) (n : ℕ) {number returned : ℕ}
+    → entry k f xs n ≡ refusal number returned → entry k g xs n ≡ refusal number returned
+unfolding entry
+entry-absent k f g [] n e = cc
+entry-absent k f g (x ∷ xs) zero e = let z : _≡_ {A = ℕ} 0 1 = cc in absurd (omega arith)
+entry-absent k f g (x ∷ xs) (suc n) e = entry-absent k f g xs n e
+
+-- 01, "When a call is declined": "A declined data part is empty, and the record call for that number names the refusal." The palette block
+-- has the reading's.
+pub declined-data : (n : ℕ) (a : Answer Contents) {number returned : ℕ} → textureOf n a ≡ refusal number returned
+    → (data1Of n a ≡ []) × (data2Of n a ≡ [])
+unfolding textureOf data1Of data2Of textureEntry outcomeOf
+declined-data n (short w) e = (refl, refl)
+declined-data n (fault found) e = (refl, refl)
+declined-data n (whole c) e =
+    (ap partOf (entry-absent kinds.Texture _ _ (c .textures) n e), ap partOf (entry-absent kinds.Texture _ _ (c .textures) n e))
+
+pub declined-pal-block : (a : Answer Contents) {number returned : ℕ} → readingOf a ≡ refusal number returned → palBlockOf a ≡ []
+unfolding readingOf palBlockOf outcomeOf
+declined-pal-block (short w) e = refl
+declined-pal-block (fault found) e = refl
+declined-pal-block (whole c) e = let z : _≡_ {A = ℕ} 0 1 = cc in absurd (omega arith)
 
 -- a status with its record beside it
 module _ {A : Type 0} (blank : A) {answer : Outcome A} {beside : A} where
