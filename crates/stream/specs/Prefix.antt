@@ -3,6 +3,7 @@
 -- An early run is the same call, lent `&block[..n]`. The sentences quoted are demand 3's. Assumes nothing.
 use Prim.Native.Nat.{ℕ, _≤_, _<_}
 use mathlib.Core.Path.{_≡_}
+use mathlib.Core.Logic.{_↔_}
 use mathlib.Core.List.{List, []}
 use lib.ListN.{length, take}
 use Rattle.util.specs.Outcome.{Outcome, refusal}
@@ -15,10 +16,6 @@ use Rattle.nitro.specs.declared.errors.Kind.{Kind}
 use Rattle.nitro.specs.declared.tex.PaletteChoice.{PaletteChoice}
 use Rattle.decode.specs.Pictures.{pictureOf}
 
--- "exactly when"
-abbrev pub Exactly : Type 0 → Type 0 → Type 0
-Exactly P Q = (P → Q) × (Q → P)
-
 -- A call, with all that it is given but the block: on a block it gives `answer`, and `beside` it an output, a record or a part, which is
 -- `declined` where the call is declined. So it is with the first n bytes of one block.
 pub record PrefixAt {A B : Type 0} (answer : List ℕ → Outcome A) (beside : List ℕ → B) (declined : B) (block : List ℕ) (n : ℕ) : Type 0 where
@@ -28,7 +25,7 @@ pub record PrefixAt {A B : Type 0} (answer : List ℕ → Outcome A) (beside : L
       → (answer (take n block) ≡ answer block) × (beside (take n block) ≡ beside block)
   -- "Where the early run is short, the full run is short with the same want exactly when the block has fewer bytes than that want."
   pub short : (needed : ℕ) → answer (take n block) ≡ refusal 1 needed
-      → (beside (take n block) ≡ declined) × Exactly (answer block ≡ refusal 1 needed) (length block < needed)
+      → (beside (take n block) ≡ declined) × ((answer block ≡ refusal 1 needed) ↔ (length block < needed))
 
 -- "Proved for every block, every n up to its length"
 abbrev pub Prefix : {A B : Type 0} (answer : List ℕ → Outcome A) (beside : List ℕ → B) (declined : B) → Type 0
