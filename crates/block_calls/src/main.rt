@@ -1,14 +1,13 @@
-// Writes what the calls of `nitro` answer for each block of its standard input, a line a call. A block is preceded by its length, in 4
-// bytes.
+// Writes what the calls of `nitro` and `name` answer for each block of its standard input, a line a call. A block is preceded by its
+// length, in 4 bytes.
+use errors::Counted;
+use errors::Refusal;
+use errors::Status;
 use libc::STDIN_FILENO;
 use libc::STDOUT_FILENO;
+use name::Name;
 use nds::texture_formats::Alpha;
 use nds::wrap::Wrap;
-use nitro::errors::Counted;
-use nitro::errors::Kind;
-use nitro::errors::Refusal;
-use nitro::errors::Status;
-use nitro::name::Name;
 use nitro::tex;
 use nitro::tex::Reading;
 use nitro::tex::TextureRecord;
@@ -27,29 +26,13 @@ fn number(n: u64) {
     io::print_decimal(STDOUT_FILENO, n);
 }
 
-// A texture's number where the kind is a texture, and else a palette's.
-fn by_kind(kind: Kind, texture: u64, palette: u64) -> u64 {
-    match kind {
-        Kind::Texture => texture,
-        Kind::Palette => palette,
-    }
-}
-
+// A refusal's number, and for a short block what is returned beside it.
 fn refused(refusal: Refusal) {
+    let n = refusal.number();
     text(b" refused");
-    match refusal {
-        Refusal::Short(needed) => {
-            number(1);
-            number(needed as u64);
-        }
-        Refusal::Stamp => number(2),
-        Refusal::Dummy(kind) => number(by_kind(kind, 3, 5)),
-        Refusal::DatumSize(kind) => number(by_kind(kind, 4, 6)),
-        Refusal::Number(kind) => number(by_kind(kind, 7, 8)),
-        Refusal::NoPalette => number(9),
-        Refusal::NoTexels => number(10),
-        Refusal::Output => number(11),
-        Refusal::ShortData => number(12),
+    number(n as u64);
+    if n == 1 {
+        number(refusal.returned() as u64);
     }
 }
 

@@ -12,17 +12,17 @@ use borrow.Author.Tests.{eq-eqb, ne-eqb, ltb-true, ltb-false, eqb-false}
 use Rattle.util.specs.Outcome.{Outcome, result, refusal, _>>=_}
 use Rattle.nds.specs.Params.{width, height, format, color0Transparent}
 use Rattle.nds.specs.Formats.{bitsPerTexel, dataLength, secondLength}
-use Rattle.nitro.specs.Refusal.{refusalOutcome}
+use Rattle.errors.specs.Refusal.{refusalOutcome}
+use Rattle.errors.specs.Output.{Writes}
+use Rattle.errors.specs.declared.Refusal.{Refusal}
+use Rattle.errors.proofs.Refusals.{refusal-not, refusal-any}
+use Rattle.errors.proofs.Outputs.{writes-fits, writes-refusal, writes-short}
 use Rattle.nitro.specs.Script.{Answer}
 use Rattle.nitro.specs.Tex.{Contents}
 use Rattle.nitro.specs.Calls.{Sources, sourcesOf}
-use Rattle.nitro.specs.Output.{Writes}
-use Rattle.nitro.specs.declared.errors.Refusal.{Refusal}
 use Rattle.nitro.specs.declared.tex.PaletteChoice.{PaletteChoice}
 use Rattle.nitro.specs.declared.tex.PaletteOff.{PaletteOff}
-use Rattle.nitro.proofs.Runs.{refusal-not, refusal-any}
 use Rattle.nitro.proofs.Answers.{passed-on}
-use Rattle.nitro.proofs.Outputs.{writes-fits, writes-refusal, writes-short}
 use Rattle.decode.specs.Texels as Texels
 use Rattle.decode.specs.Pictures.{quads, texelCount, pictureLength, offOf, texel, pictureBytes, lacksPalette, lacksData}
 use Rattle.decode.specs.Pictures.{ready, decoded, pictureOf}

@@ -10,7 +10,7 @@ use lib.ListN.{length, take, drop, length-append}
 use lib.Seq.{sets, take-at, drop-at}
 use lib.Dec.{ltb}
 use borrow.Author.Tests.{ltb-true, ltb-false}
-use Rattle.nitro.proofs.Outputs.{Wrote, wrote-none, wrote-more}
+use Rattle.errors.proofs.Outputs.{Wrote, wrote-none, wrote-more}
 use Rattle.decode.specs.Pictures.{quads}
 use Rattle.decode.specs.Steps.{painted}
 

@@ -12,7 +12,7 @@ use lib.Pow.{shr-shr}
 use borrow.Author.Count.{below-more}
 use Rattle.util.specs.Number.{numberAt}
 use Rattle.util.proofs.Numbers.{number-one, number-add}
-use Rattle.nitro.proofs.Outputs.{wrote-length, wrote-more, wrote-all}
+use Rattle.errors.proofs.Outputs.{wrote-length, wrote-more, wrote-all}
 use Rattle.decode.specs.Texels.{blockColor, format5}
 use Rattle.decode.specs.Pictures.{quads}
 use Rattle.decode.specs.Steps.{painted, pixelAt, rowBytes, byteOf, rowOf, BlockPut, compressedTexel, rowsTexel}

@@ -1,16 +1,16 @@
 // Decodes textures to RGBA, eight bits a channel.
+use errors::Counted;
+use errors::Refusal;
+use errors::Status;
 use nds::texture_params::TextureParams;
-use nitro::errors::Counted;
-use nitro::errors::Refusal;
-use nitro::errors::Status;
 use nitro::tex::PaletteOff;
 use util::view::view_u16;
 ghost use mathlib.Core.Path.{_≡_};
 ghost use Prim.Native.Nat.{_+_, _*_, _≤_, _<_, _^_};
 ghost use lib.ListN.{length, take, drop};
 ghost use lib.Seq.{sets};
-ghost use Rattle.nitro.specs.Refusal.{statusOutcome, countedOutcome};
-ghost use Rattle.nitro.specs.Output.{Writes};
+ghost use Rattle.errors.specs.Refusal.{statusOutcome, countedOutcome};
+ghost use Rattle.errors.specs.Output.{Writes};
 ghost use Rattle.decode.specs.Texels as Texels;
 ghost use Rattle.decode.specs.Pictures as Pictures;
 ghost use Rattle.decode.specs.Steps as Steps;

@@ -1,14 +1,14 @@
 // Pictures from a block.
 use crate::decode_texture::decode_texture;
-use nitro::errors::Counted;
+use errors::Counted;
 use nitro::tex::Located;
 use nitro::tex::PaletteChoice;
 use nitro::tex::locate;
 use util::cur::part_at;
+ghost use Rattle.errors.specs.Refusal.{countedOutcome};
+ghost use Rattle.errors.specs.Output.{Writes};
 ghost use Rattle.nitro.specs.Script.{run};
 ghost use Rattle.nitro.specs.Tex as Tex;
-ghost use Rattle.nitro.specs.Refusal.{countedOutcome};
-ghost use Rattle.nitro.specs.Output.{Writes};
 ghost use Rattle.decode.specs.Pictures as Pictures;
 
 // Reads the block and decodes its texture n with the chosen palette, and returns the picture's length in bytes.

@@ -9,7 +9,12 @@ use lib.ListN.{length, getD, take}
 use lib.Dec.{ltb}
 use borrow.Author.Tests.{ltb-true, ltb-false, lt-ltb, le-ltb}
 use Rattle.util.specs.Outcome.{Outcome, result, refusal, _>>=_}
-use Rattle.nitro.specs.Refusal.{absentNumber, refusalOutcome}
+use Rattle.errors.specs.Refusal.{absentNumber, refusalOutcome}
+use Rattle.errors.specs.declared.Kind.{Kind}
+use Rattle.errors.specs.declared.Kind.the-variants as kinds
+use Rattle.errors.specs.declared.Refusal.{Refusal}
+use Rattle.errors.specs.declared.Status.the-variants.{Done, Refused}
+use Rattle.errors.proofs.Refusals.{refusal-not, refusal-any}
 use Rattle.nitro.specs.Script.{Answer, short, fault, whole, run, outcomeOf}
 use Rattle.nitro.specs.InfoBlock.{listAt, listLength}
 use Rattle.nitro.specs.Tex as Tex
@@ -17,10 +22,6 @@ use Rattle.nitro.specs.Tex.{Contents, headerOf, readTex}
 use Rattle.nitro.specs.Calls.{Answers, entry, textureEntry, paletteEntry, valueOr, readingOf, textureOf, partOf, data1Of, data2Of, palBlockOf}
 use Rattle.nitro.specs.Calls.{Sources, chosenOf, sourcesOf, sourcesAt, placesAt, placesOf}
 use Rattle.nitro.specs.Layouts.{countOf, layoutOf, layoutWith, hasChoice, chosenAt, placesBy}
-use Rattle.nitro.specs.declared.errors.Kind.{Kind}
-use Rattle.nitro.specs.declared.errors.Kind.the-variants as kinds
-use Rattle.nitro.specs.declared.errors.Refusal.{Refusal}
-use Rattle.nitro.specs.declared.errors.Status.the-variants.{Done, Refused}
 use Rattle.nitro.specs.declared.tex.Header.{Header}
 use Rattle.nitro.specs.declared.tex.Layout.{Layout}
 use Rattle.nitro.specs.declared.tex.PaletteChoice.{PaletteChoice}
@@ -28,7 +29,7 @@ use Rattle.nitro.specs.declared.tex.PaletteChoice.the-variants as choice
 use Rattle.nitro.specs.declared.tex.PaletteOff.{PaletteOff}
 use Rattle.nitro.specs.declared.tex.PaletteOff.the-variants as offs
 use Rattle.nitro.specs.declared.tex.Places.{Places}
-use Rattle.nitro.proofs.Runs.{whole-outcome, refusal-not, refusal-any}
+use Rattle.nitro.proofs.Runs.{whole-outcome}
 use Rattle.nitro.proofs.Readings.{TextureAt, finished, textures-listed, palettes-listed, pal-block-whole}
 
 -- entry n of a list, and none

@@ -8,11 +8,11 @@ use borrow.Author.Tests.{eq-eqb, ne-eqb}
 use Rattle.util.specs.Number.{numberAt}
 use Rattle.util.specs.Outcome.{result}
 use Rattle.util.proofs.Numbers.{number-in-part}
-use Rattle.nitro.specs.Refusal.{badDummy, badSize}
+use Rattle.errors.specs.Refusal.{badDummy, badSize}
+use Rattle.errors.specs.declared.Kind.{Kind}
+use Rattle.errors.specs.declared.Kind.the-variants.{Texture, Palette}
 use Rattle.nitro.specs.Script.{fault, whole, run, outcomeOf, bytesAt}
 use Rattle.nitro.specs.InfoBlock.{NameList, datumBytes, sizeAt, listLength, listAt, wholeList, nameList}
-use Rattle.nitro.specs.declared.errors.Kind.{Kind}
-use Rattle.nitro.specs.declared.errors.Kind.the-variants.{Texture, Palette}
 use Rattle.nitro.proofs.Runs.{onward, both, bytes-in, bytes-whole, expect-met, expect-failed, expected, ended, Follows, follows-bind}
 
 -- the data of a list of at most 255 entries are few

@@ -14,13 +14,13 @@ use Rattle.util.specs.Take.{takenPart}
 use Rattle.util.proofs.Takes.{part-there, part-empty}
 use Rattle.nds.specs.Params.{format}
 use Rattle.nds.specs.Formats.{dataLength, secondLength}
-use Rattle.nitro.specs.Refusal.{badStamp}
+use Rattle.errors.specs.Refusal.{badStamp}
+use Rattle.errors.specs.declared.Kind.the-variants as kinds
 use Rattle.nitro.specs.Script.{done, fault, whole, run, outcomeOf, bytesAt, each}
 use Rattle.nitro.specs.InfoBlock.{NameList, listAt, listLength, nameList, entryName, entryNumber}
 use Rattle.nitro.specs.Tex as Tex
 use Rattle.nitro.specs.Tex.{Contents, hasStamp, headerOf, dataAt, secondAt, paletteAt, readHeader, readPalBlock, readSecond, readData}
 use Rattle.nitro.specs.Tex.{readTexture, readTextures, readPalettes, readTex}
-use Rattle.nitro.specs.declared.errors.Kind.the-variants as kinds
 use Rattle.nitro.specs.declared.tex.Header.{Header}
 use Rattle.nitro.proofs.Runs.{onward, both, bytes-in, bytes-whole, expect-met, expect-failed, expect-held, expected, outcome-map, outcome-bind}
 use Rattle.nitro.proofs.Runs.{outcome-same, each-count, each-done, each-length, each-at, Follows, follows-bind, follows-onward}

@@ -9,10 +9,11 @@ use lib.ListN.{length, take, drop, getD}
 use lib.Dec.{leb}
 use borrow.Author.Tests.{le-leb, lt-leb, leb-true, leb-false}
 use Rattle.util.specs.Outcome.{Outcome, result, refusal}
-use Rattle.nitro.specs.Refusal.{Fault, faultNumber, refusalOutcome}
+use Rattle.errors.specs.Refusal.{Fault, faultNumber, refusalOutcome}
+use Rattle.errors.specs.declared.Refusal.{Refusal}
+use Rattle.errors.proofs.Refusals.{refusal-not, refusal-any}
 use Rattle.nitro.specs.Script.{Script, done, refuse, get, Answer, short, fault, whole, run, outcomeOf, bytesAt, expect, eachFrom}
 use Rattle.nitro.specs.Script.{_>>=_, _>>_}
-use Rattle.nitro.specs.declared.errors.Refusal.{Refusal}
 
 -- an answer, and then the next
 abbrev pub andThen : {A B : Type 0} → Answer A → (A → Answer B) → Answer B
@@ -235,15 +236,7 @@ ended (short w) g e = let z : _≡_ {A = ℕ} 0 1 = cc in absurd (omega arith)
 ended (fault w) g e = let z : _≡_ {A = ℕ} 0 1 = cc in absurd (omega arith)
 ended (whole a) g e = record { end = a; is = refl; gives = cc }
 
--- a refusal in the code is never a result, and is the same whatever would have been answered
-pub refusal-not : {A : Type 0} {a : A} (r : Refusal) → refusalOutcome r ≡ result a → ⊥
-refusal-not r e = let z : _≡_ {A = ℕ} 0 1 = cc in omega arith
-
-pub refusal-any : {A B : Type 0} {k v : ℕ} (r : Refusal)
-    → _≡_ {A = Outcome A} (refusalOutcome r) (refusal k v) → _≡_ {A = Outcome B} (refusalOutcome r) (refusal k v)
-refusal-any r e = cc
-
--- so a refusal of x is y's, whatever either makes of its end
+-- a refusal of x is y's, whatever either makes of its end
 module _ {A B C D : Type 0} (x : Answer A) (y : Answer B) (follows : Follows x y) (g : A → C) (h : B → Outcome D) (r : Refusal) where
   pub refused : refusalOutcome r ≡ outcomeOf x (λ a. result (g a)) → refusalOutcome r ≡ outcomeOf y h
   unfolding outcomeOf

@@ -8,13 +8,13 @@ use Rattle.util.specs.Take.{takenPart}
 use Rattle.nds.specs.Params.{repeatS, mirrorS, repeatT, mirrorT}
 use Rattle.nds.specs.Formats.{alpha, dataLength, secondLength}
 use Rattle.nds.specs.Wrap.{wrapOf}
-use Rattle.nitro.specs.Refusal.{absentNumber, refusalOutcome}
+use Rattle.errors.specs.Refusal.{absentNumber, refusalOutcome}
+use Rattle.errors.specs.declared.Kind.{Kind}
+use Rattle.errors.specs.declared.Kind.the-variants as kind
+use Rattle.errors.specs.declared.Status.{Status}
+use Rattle.errors.specs.declared.Status.the-variants.{Done, Refused}
 use Rattle.nitro.specs.Script.{Answer, outcomeOf}
 use Rattle.nitro.specs.Tex.{Data, Texture, Palette, Contents, headerOf, dataAt, secondAt}
-use Rattle.nitro.specs.declared.errors.Kind.{Kind}
-use Rattle.nitro.specs.declared.errors.Kind.the-variants as kind
-use Rattle.nitro.specs.declared.errors.Status.{Status}
-use Rattle.nitro.specs.declared.errors.Status.the-variants.{Done, Refused}
 use Rattle.nitro.specs.declared.tex.Header.{Header}
 use Rattle.nitro.specs.declared.tex.Reading.{Reading}
 use Rattle.nitro.specs.declared.tex.Reading.the-variants as reading

@@ -5,10 +5,10 @@ use lib.ListN.{take, drop}
 use lib.Dec.{eqb}
 use Rattle.util.specs.Number.{numberAt}
 use Rattle.util.specs.Outcome.{Outcome, result}
-use Rattle.nitro.specs.Refusal.{badDummy, badSize}
+use Rattle.errors.specs.Refusal.{badDummy, badSize}
+use Rattle.errors.specs.declared.Kind.{Kind}
+use Rattle.errors.specs.declared.Kind.the-variants.{Texture, Palette}
 use Rattle.nitro.specs.Script.{Script, run, outcomeOf, done, bytesAt, expect, _>>=_, _>>_}
-use Rattle.nitro.specs.declared.errors.Kind.{Kind}
-use Rattle.nitro.specs.declared.errors.Kind.the-variants.{Texture, Palette}
 
 -- 01, "Records": "A texture datum has 8 bytes, .. a palette datum has 4".
 abbrev pub datumBytes : Kind → ℕ

@@ -6,13 +6,13 @@ use mathlib.Core.List.{List}
 use lib.ListN.{length, take}
 use lib.Dec.{ltb}
 use Rattle.util.specs.Outcome.{Outcome, result, refusal}
-use Rattle.nitro.specs.Refusal.{absentNumber, refusalOutcome}
+use Rattle.errors.specs.Refusal.{absentNumber, refusalOutcome}
+use Rattle.errors.specs.declared.Kind.{Kind}
+use Rattle.errors.specs.declared.Kind.the-variants as kind
 use Rattle.nitro.specs.Script.{Script, Answer, run, outcomeOf, each}
 use Rattle.nitro.specs.InfoBlock.{listAt, entryNumber}
 use Rattle.nitro.specs.Tex.{Texture, Contents, headerOf, readTexture}
 use Rattle.nitro.specs.Calls.{placesAt}
-use Rattle.nitro.specs.declared.errors.Kind.{Kind}
-use Rattle.nitro.specs.declared.errors.Kind.the-variants as kind
 use Rattle.nitro.specs.declared.tex.Header.{Header}
 use Rattle.nitro.specs.declared.tex.Layout.{Layout}
 use Rattle.nitro.specs.declared.tex.Headed.{Headed}

@@ -5,7 +5,7 @@ use mathlib.Core.List.{List, [], _∷_}
 use lib.ListN.{length, take, drop}
 use lib.Dec.{leb, ltb}
 use Rattle.util.specs.Outcome.{Outcome, refusal}
-use Rattle.nitro.specs.Refusal.{Fault, faultNumber}
+use Rattle.errors.specs.Refusal.{Fault, faultNumber}
 
 infixl 1 _>>=_
 infixl 1 _>>_

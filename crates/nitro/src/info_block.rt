@@ -1,18 +1,17 @@
 // Name lists: c entries, each a datum and a name of 16 bytes.
-use crate::errors::Counted;
-use crate::errors::Kind;
-use crate::errors::Refusal;
-use crate::errors::Status;
-use crate::name::Name;
-use crate::name::name_at;
+use errors::Counted;
+use errors::Kind;
+use errors::Refusal;
+use errors::Status;
+use name::Name;
 use util::cur::Taken;
 use util::cur::take_at;
 use util::view::view_u8;
 use util::view::view_u16;
 ghost use mathlib.Core.Path.{_≡_};
 ghost use Prim.Native.Nat.{_+_, _<_, _≤_, _^_};
-ghost use lib.ListN.{length};
-ghost use Rattle.nitro.specs.Refusal.{statusOutcome, countedOutcome};
+ghost use lib.ListN.{length, take as firstBytes, drop};
+ghost use Rattle.errors.specs.Refusal.{statusOutcome, countedOutcome};
 ghost use Rattle.nitro.specs.Script.{bytesAt};
 ghost use Rattle.nitro.specs.InfoBlock as InfoBlock;
 ghost use Rattle.nitro.specs.Layouts.{passing};
@@ -72,6 +71,20 @@ pub fn read(block: &[u8], kind: Kind, pos: u32) -> Counted
             read_whole(block, kind, pos, c)
         }
     }
+}
+
+// The name of the 16 bytes at pos.
+fn name_at(block: &[u8], pos: usize) -> Name
+    requires { ⌜ pos + 16 ≤ length (now block) ⌝ }
+    ensures { λ r. ⌜ r .0 ≡ firstBytes 16 (drop pos (now (block .entry))) ⌝ }
+{
+    let mut bytes = [0u8; 16];
+    let mut i = 0;
+    while i < 16 {
+        bytes[i] = block[pos + i];
+        i += 1;
+    }
+    Name(bytes)
 }
 
 // The name of entry n of the list of c entries at pos.

@@ -1,14 +1,14 @@
 // TEX0 blocks: the reading, and what it found, as records and as parts of the block.
 //
 // A reading keeps nothing but positions and counts. Each call reads the block, and then picks what it was asked for.
-use crate::errors::Counted;
-use crate::errors::Kind;
-use crate::errors::Refusal;
-use crate::errors::Status;
 use crate::info_block;
 use crate::info_block::entry_name;
 use crate::info_block::take;
-use crate::name::Name;
+use errors::Counted;
+use errors::Kind;
+use errors::Refusal;
+use errors::Status;
+use name::Name;
 use nds::texture_formats::Alpha;
 use nds::texture_params::TextureParams;
 use nds::wrap::Wrap;
@@ -20,13 +20,13 @@ ghost use mathlib.Core.Bool.{true};
 ghost use Prim.Native.Nat.{_+_, _*_, _<_, _≤_, _^_};
 ghost use lib.ListN.{length, take as firstBytes};
 ghost use Rattle.util.specs.Outcome.{result};
-ghost use Rattle.nitro.specs.Refusal.{statusOutcome, countedOutcome};
+ghost use Rattle.errors.specs.Refusal.{statusOutcome, countedOutcome};
+ghost use Rattle.errors.specs.declared.Kind.the-variants as kinds;
 ghost use Rattle.nitro.specs.Script.{run, outcomeOf};
 ghost use Rattle.nitro.specs.InfoBlock.{listAt, listLength, entryNumber};
 ghost use Rattle.nitro.specs.Tex as Tex;
 ghost use Rattle.nitro.specs.Calls as Calls;
 ghost use Rattle.nitro.specs.Layouts as Layouts;
-ghost use Rattle.nitro.specs.declared.errors.Kind.the-variants as kinds;
 
 struct Header {
     texture_off: u16,

@@ -18,12 +18,10 @@
 // | 44, 48 | the palette block |
 use decode::decode_texture::decode_texture;
 use decode::picture::picture;
+use errors::Counted;
 use libc::STDIN_FILENO;
 use libc::STDOUT_FILENO;
 use nds::texture_params::TextureParams;
-use nitro::errors::Counted;
-use nitro::errors::Kind;
-use nitro::errors::Refusal;
 use nitro::tex::PaletteChoice;
 use nitro::tex::PaletteOff;
 use util::cur::Peeked;
@@ -37,37 +35,6 @@ fn text(bytes: &[u8]) {
 fn number(n: u64) {
     text(b" ");
     io::print_decimal(STDOUT_FILENO, n);
-}
-
-// A texture's number where the kind is a texture, and else a palette's.
-fn by_kind(kind: Kind, texture: u64, palette: u64) -> u64 {
-    match kind {
-        Kind::Texture => texture,
-        Kind::Palette => palette,
-    }
-}
-
-fn refusal_number(refusal: Refusal) -> u64 {
-    match refusal {
-        Refusal::Short(_) => 1,
-        Refusal::Stamp => 2,
-        Refusal::Dummy(kind) => by_kind(kind, 3, 5),
-        Refusal::DatumSize(kind) => by_kind(kind, 4, 6),
-        Refusal::Number(kind) => by_kind(kind, 7, 8),
-        Refusal::NoPalette => 9,
-        Refusal::NoTexels => 10,
-        Refusal::Output => 11,
-        Refusal::ShortData => 12,
-    }
-}
-
-// What is returned with a refusal: a short take's want.
-fn returned(refusal: Refusal) -> u64 {
-    if let Refusal::Short(needed) = refusal {
-        needed as u64
-    } else {
-        0
-    }
 }
 
 // The number at pos, or 0 where there is none.
@@ -139,8 +106,8 @@ fn written(c: Counted, out: &[u8]) {
         }
         Counted::Refused(refusal) => {
             text(b" refused");
-            number(refusal_number(refusal));
-            number(returned(refusal));
+            number(refusal.number() as u64);
+            number(refusal.returned() as u64);
             number(checksum(out));
         }
     }

@@ -11,14 +11,14 @@ use borrow.Author.Tests.{leb-true, leb-false}
 use Rattle.util.specs.Outcome.{Outcome, result, refusal, _>>=_}
 use Rattle.util.proofs.Parts.{part-of-prefix}
 use Rattle.nds.specs.Params.{format}
-use Rattle.nitro.specs.Refusal.{Fault, badStamp, badDummy, badSize, faultNumber, absentNumber}
+use Rattle.errors.specs.Refusal.{Fault, badStamp, badDummy, badSize, faultNumber, absentNumber}
+use Rattle.errors.specs.Output.{writeOutcome, writeOutput}
+use Rattle.errors.specs.declared.Kind.{Kind}
+use Rattle.errors.specs.declared.Kind.the-variants as kinds
 use Rattle.nitro.specs.Script.{Script, Answer, short, fault, whole, run, outcomeOf}
 use Rattle.nitro.specs.InfoBlock.{nameList, listCount}
 use Rattle.nitro.specs.Tex.{Palette, Contents, readTex}
 use Rattle.nitro.specs.Calls as Calls
-use Rattle.nitro.specs.Output.{writeOutcome, writeOutput}
-use Rattle.nitro.specs.declared.errors.Kind.{Kind}
-use Rattle.nitro.specs.declared.errors.Kind.the-variants as kinds
 use Rattle.nitro.specs.declared.tex.PaletteChoice.{PaletteChoice}
 use Rattle.nitro.specs.declared.tex.PaletteChoice.the-variants as choices
 use Rattle.nitro.specs.declared.tex.PaletteOff.{PaletteOff}

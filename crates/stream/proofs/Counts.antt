@@ -12,13 +12,13 @@ use Rattle.util.specs.Number.{numberAt}
 use Rattle.util.proofs.Numbers.{number-in-part}
 use Rattle.nds.specs.Params.{width, height, format}
 use Rattle.nds.specs.Formats.{dataLength}
-use Rattle.nitro.specs.Refusal.{Fault}
+use Rattle.errors.specs.Refusal.{Fault}
+use Rattle.errors.specs.declared.Kind.{Kind}
+use Rattle.errors.specs.declared.Kind.the-variants as kinds
 use Rattle.nitro.specs.Script.{Script, done, refuse, get, whole, run, ends, records, bytesAt, expect, eachFrom, _>>=_, _>>_}
 use Rattle.nitro.specs.InfoBlock.{NameList, wholeList, nameList}
 use Rattle.nitro.specs.Tex.{hasStamp, headerOf, dataAt, secondAt, paletteAt, readHeader, readPalBlock, readSecond, readData, readTexture}
 use Rattle.nitro.specs.Tex.{readTextures, readPalettes, readTex}
-use Rattle.nitro.specs.declared.errors.Kind.{Kind}
-use Rattle.nitro.specs.declared.errors.Kind.the-variants as kinds
 use Rattle.nitro.proofs.Runs.{both, bytes-whole}
 use Rattle.nitro.proofs.Lists.{listed}
 use Rattle.nitro.proofs.Readings.{header-there, header-whole}

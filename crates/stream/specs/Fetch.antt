@@ -7,10 +7,10 @@ use lib.ListN.{length, take}
 use lib.Dec.{leb, eqb}
 use Rattle.util.specs.Number.{numberAt}
 use Rattle.util.specs.Outcome.{Outcome, result, refusal}
+use Rattle.errors.specs.Output.{writeOutcome, writeOutput}
 use Rattle.nitro.specs.Script.{run, ends, records}
 use Rattle.nitro.specs.Tex.{hasStamp, headerOf, readTex}
 use Rattle.nitro.specs.Calls.{Counts, readingOf}
-use Rattle.nitro.specs.Output.{writeOutcome, writeOutput}
 use Rattle.nitro.specs.declared.tex.PaletteChoice.{PaletteChoice}
 use Rattle.decode.specs.Pictures.{pictureOf}
 use Rattle.stream.specs.declared.shortness.Shortness.{Shortness}

@@ -2,14 +2,14 @@
 use crate::shortness::Shortness;
 use crate::shortness::counted_shortness;
 use decode::picture::picture;
-use nitro::errors::Counted;
+use errors::Counted;
 use nitro::tex::PaletteChoice;
 ghost use Prim.Native.Nat.{_≤_};
 ghost use lib.ListN.{length, take};
+ghost use Rattle.errors.specs.Refusal.{countedOutcome};
+ghost use Rattle.errors.specs.Output.{Writes};
 ghost use Rattle.nitro.specs.Script.{run};
 ghost use Rattle.nitro.specs.Tex as Tex;
-ghost use Rattle.nitro.specs.Refusal.{countedOutcome};
-ghost use Rattle.nitro.specs.Output.{Writes};
 ghost use Rattle.decode.specs.Pictures as Pictures;
 ghost use Rattle.stream.specs.Fetch.{Fetched, pictureCall};
 

@@ -1,10 +1,10 @@
 // Whether an answer is short: the refusal that more bytes of the block can lift.
-use nitro::errors::Counted;
-use nitro::errors::Refusal;
+use errors::Counted;
+use errors::Refusal;
 use nitro::tex::Reading;
 ghost use mathlib.Core.Path.{_≡_};
 ghost use Prim.Native.Nat.{ℕ};
-ghost use Rattle.nitro.specs.Refusal.{refusalOutcome, countedOutcome};
+ghost use Rattle.errors.specs.Refusal.{refusalOutcome, countedOutcome};
 ghost use Rattle.nitro.specs.Calls.{readingOutcome};
 ghost use Rattle.stream.specs.Fetch.{shortness};
 

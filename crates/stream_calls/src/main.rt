@@ -26,15 +26,14 @@
 // | 32 | the output's length, at most 520 |
 // | 36 | of prefixes: the least number of bytes |
 use decode::picture::picture;
+use errors::Counted;
+use errors::Refusal;
+use errors::Status;
 use libc::STDIN_FILENO;
 use libc::STDOUT_FILENO;
+use name::Name;
 use nds::texture_formats::Alpha;
 use nds::wrap::Wrap;
-use nitro::errors::Counted;
-use nitro::errors::Kind;
-use nitro::errors::Refusal;
-use nitro::errors::Status;
-use nitro::name::Name;
 use nitro::tex;
 use nitro::tex::PaletteChoice;
 use nitro::tex::Reading;
@@ -54,30 +53,10 @@ fn number(n: u64) {
     io::print_decimal(STDOUT_FILENO, n);
 }
 
-// The first text where the kind is a texture, and else the second.
-fn by_kind(kind: Kind, texture: &[u8], palette: &[u8]) {
-    match kind {
-        Kind::Texture => text(texture),
-        Kind::Palette => text(palette),
-    }
-}
-
-// Document 01's number of the refusal, and what is returned with it.
 fn refused(refusal: Refusal) {
-    match refusal {
-        Refusal::Short(needed) => {
-            text(b" | no 1 ");
-            io::print_decimal(STDOUT_FILENO, needed as u64);
-        }
-        Refusal::Stamp => text(b" | no 2 0"),
-        Refusal::Dummy(kind) => by_kind(kind, b" | no 3 0", b" | no 5 0"),
-        Refusal::DatumSize(kind) => by_kind(kind, b" | no 4 0", b" | no 6 0"),
-        Refusal::Number(kind) => by_kind(kind, b" | no 7 0", b" | no 8 0"),
-        Refusal::NoPalette => text(b" | no 9 0"),
-        Refusal::NoTexels => text(b" | no 10 0"),
-        Refusal::Output => text(b" | no 11 0"),
-        Refusal::ShortData => text(b" | no 12 0"),
-    }
+    text(b" | no ");
+    io::print_decimal(STDOUT_FILENO, refusal.number() as u64);
+    number(refusal.returned() as u64);
 }
 
 fn status(s: Status) {

@@ -6,7 +6,7 @@ use native.Mathlib.Omega.{arith}
 use lib.ListN.{length, length-take, length-drop}
 use denote.Ref.{now}
 use borrow.Author.Needs.{needs}
-use Rattle.nitro.proofs.Outputs.{wrote-length}
+use Rattle.errors.proofs.Outputs.{wrote-length}
 use Rattle.decode.specs.Steps.{compressedTexel, rowsTexel}
 use Rattle.decode.proofs.Quads.{Painting, paint-none, painted-all}
 use Rattle.decode.proofs.Rows.{mul-below, mul-next, rows-texel, paint-part}

@@ -4,7 +4,7 @@ use mathlib.Core.Path.{_≡_, _∙_}
 use native.Mathlib.Omega.{arith}
 use lib.ListN.{length}
 use borrow.Author.Needs.{needs}
-use Rattle.nitro.proofs.Outputs.{wrote-length}
+use Rattle.errors.proofs.Outputs.{wrote-length}
 use Rattle.decode.specs.Texels.{formats2to4}
 use Rattle.decode.proofs.Quads.{Painting, paint-none, paint-more, painted-all}
 use Rattle.decode.proofs.Texels.{texel-byte, formats2to4-four}

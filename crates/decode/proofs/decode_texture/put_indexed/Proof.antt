@@ -4,7 +4,7 @@ use mathlib.Core.Path.{_≡_, ap, _∙_}
 use native.Mathlib.Omega.{arith}
 use lib.ListN.{length}
 use borrow.Author.Needs.{needs}
-use Rattle.nitro.proofs.Outputs.{wrote-length}
+use Rattle.errors.proofs.Outputs.{wrote-length}
 use Rattle.decode.specs.Steps.{pixelAt, indexedTexel}
 use Rattle.decode.proofs.Quads.{Painting, paint-none, paint-more, painted-all}
 use Rattle.decode.proofs.Tables.{texel-lt, indexed-texel-four, index-there}

@@ -1,7 +1,7 @@
 -- `decode::picture::picture` meets its contract: what was located is decoded. Assumes nothing.
 use borrow.Author.Needs.{needs}
+use Rattle.errors.proofs.Outputs.{writes-refusal}
 use Rattle.nitro.proofs.Answers.{located-sources, located-refused}
-use Rattle.nitro.proofs.Outputs.{writes-refusal}
 use Rattle.decode.proofs.Pictures.{picture-found, picture-refused}
 use Rattle.decode.proofs.picture.picture.Statement.{statement}
 use Rattle.decode.proofs.picture.picture.Tie as tie

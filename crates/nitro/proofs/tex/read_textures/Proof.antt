@@ -5,9 +5,9 @@ use lib.ListN.{length}
 use denote.Ref.{now}
 use borrow.Author.Needs.{needs}
 use Rattle.util.specs.Outcome.{result}
+use Rattle.errors.specs.declared.Kind.the-variants.{Texture}
 use Rattle.nitro.specs.Script.{run, whole, outcomeOf}
 use Rattle.nitro.specs.InfoBlock.{listAt, nameList}
-use Rattle.nitro.specs.declared.errors.Kind.the-variants.{Texture}
 use Rattle.nitro.proofs.Runs.{refused}
 use Rattle.nitro.proofs.Lists.{name-listed, list-counted}
 use Rattle.nitro.proofs.Readings.{textures-follow, textures-read}

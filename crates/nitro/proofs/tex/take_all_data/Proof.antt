@@ -8,11 +8,11 @@ use native.Mathlib.Omega.{arith}
 use denote.Ref.{now}
 use borrow.Author.Needs.{needs}
 use Rattle.util.specs.Outcome.{Outcome, result}
+use Rattle.errors.specs.declared.Kind.the-variants as kinds
 use Rattle.nitro.specs.Script.{Script, run, outcomeOf, eachFrom}
 use Rattle.nitro.specs.InfoBlock.{listAt}
 use Rattle.nitro.specs.Tex.{Texture, readTexture}
 use Rattle.nitro.specs.Layouts.{counting, textureRow}
-use Rattle.nitro.specs.declared.errors.Kind.the-variants as kinds
 use Rattle.nitro.specs.declared.tex.Header.{Header}
 use Rattle.nitro.proofs.Runs.{ended, each-turn, each-none, each-count, each-follows, follows-trans, refused}
 use Rattle.nitro.proofs.Readings.{texture-follows, texture-read}

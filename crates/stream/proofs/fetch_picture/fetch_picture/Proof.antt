@@ -5,10 +5,10 @@ use native.Mathlib.Omega.{arith}
 use lib.ListN.{length, take}
 use denote.Ref.{now}
 use borrow.Author.Needs.{needs}
+use Rattle.errors.specs.Refusal.{countedOutcome}
+use Rattle.errors.specs.Output.{writeOutcome, writeOutput, Writes}
 use Rattle.nitro.specs.Script.{run}
 use Rattle.nitro.specs.Tex.{readTex}
-use Rattle.nitro.specs.Refusal.{countedOutcome}
-use Rattle.nitro.specs.Output.{writeOutcome, writeOutput, Writes}
 use Rattle.decode.specs.Pictures.{pictureOf}
 use Rattle.stream.specs.Fetch.{pictureCall}
 use Rattle.stream.proofs.Calls.{picture-scripted}

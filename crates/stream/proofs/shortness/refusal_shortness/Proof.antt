@@ -5,11 +5,11 @@ use mathlib.Core.List.{[], _∷_}
 use types.Run.{OneOf, miss}
 use denote.Enum.Declared.{tagOf}
 use borrow.Author.Needs.{needs}
-use Rattle.nitro.specs.Refusal.{refusalOutcome}
-use Rattle.nitro.specs.declared.errors.Kind.the-variants as kinds
-use Rattle.nitro.specs.declared.errors.Refusal.{Refusal}
-use Rattle.nitro.specs.declared.errors.Refusal.the-variants.{Short, Stamp, Dummy, DatumSize, Number, NoPalette, NoTexels, Output, ShortData}
-use Rattle.nitro.proofs.errors.Refusal.{the-type}
+use Rattle.errors.specs.Refusal.{refusalOutcome}
+use Rattle.errors.specs.declared.Kind.the-variants as kinds
+use Rattle.errors.specs.declared.Refusal.{Refusal}
+use Rattle.errors.specs.declared.Refusal.the-variants.{Short, Stamp, Dummy, DatumSize, Number, NoPalette, NoTexels, Output, ShortData}
+use Rattle.errors.proofs.Refusal.{the-type}
 use Rattle.stream.specs.Fetch.{shortness}
 use Rattle.stream.specs.declared.shortness.Shortness.the-variants.{Enough}
 use Rattle.stream.proofs.shortness.refusal_shortness.Statement.{statement}

@@ -1,0 +1,73 @@
+-- The laws of an output that is written piece after piece, and of the two cases of `Writes`. Assumes nothing.
+use Prim.Native.Nat.{ℕ, _+_, _≤_, _<_}
+use mathlib.Core.Path.{_≡_, refl, _∙_}
+use mathlib.Core.Bool.{Bool, true, false}
+use mathlib.Core.List.{List, [], _∷_, _++_, append-nil}
+use native.Mathlib.Omega.{arith}
+use lib.ListN.{length, drop, set, length-append, length-drop, drop-of-length-le}
+use lib.Seq.{take-append-seam, drop-append-add, drop-drop, sets, sets-eq}
+use lib.Dec.{leb}
+use borrow.Author.Tests.{le-leb, lt-leb}
+use Rattle.util.specs.Outcome.{Outcome, result, refusal}
+use Rattle.errors.specs.Refusal.{refusalOutcome}
+use Rattle.errors.specs.Output.{writeOutcome, writeOutput, Writes}
+use Rattle.errors.specs.declared.Refusal.{Refusal}
+use Rattle.errors.proofs.Refusals.{refusal-not, refusal-any}
+
+-- an output, `entry` at first and `now` after the text was written to its first `end` bytes
+pub record Wrote (text entry : List ℕ) (end : ℕ) (now : List ℕ) : Type 0 where
+  pub fits : length text ≤ length entry
+  pub ends : end ≡ length text
+  pub holds : now ≡ text ++ drop (length text) entry
+
+pub wrote-none : (entry : List ℕ) → Wrote [] entry 0 entry
+wrote-none entry = record { fits = omega arith; ends = refl; holds = refl }
+
+module _ {text entry : List ℕ} {end : ℕ} {now : List ℕ} (w : Wrote text entry end now) where
+  pub wrote-length : length now ≡ length entry
+  wrote-length = rw (w .holds) (simp (length-append, length-drop) (omega arith))
+
+  pub wrote-more : (piece : List ℕ) → end + length piece ≤ length entry
+      → Wrote (text ++ piece) entry (end + length piece) (sets now end piece)
+  wrote-more piece h = record {
+    fits = rw length-append (omega arith);
+    ends = rw length-append (omega arith);
+    holds =
+        rw (w .ends, w .holds)
+        (sets-eq piece (text ++ drop (length text) entry) (length text) (simp (length-append, length-drop) (omega arith))
+        ∙ rw (take-append-seam, drop-append-add, drop-drop, length-append));
+  }
+
+  pub wrote-byte : (b : ℕ) → end < length entry → Wrote (text ++ (b ∷ [])) entry (end + 1) (set now end b)
+  wrote-byte b h = wrote-more (b ∷ []) (omega arith)
+
+  -- an output that is full
+  pub wrote-all : length entry ≤ end → now ≡ text
+  wrote-all h = w .holds ∙ rw (drop-of-length-le entry {i = length text} (omega arith), append-nil)
+
+  pub writes-fits : Writes (result text) entry (result end) now
+  unfolding writeOutcome writeOutput
+  writes-fits =
+      let e = le-leb _ _ (w .fits) in
+      record { outcome = rw (e, w .ends); output = rw e (w .holds) }
+
+pub writes-short : (text entry : List ℕ) → length entry < length text → Writes (result text) entry (refusal 11 0) entry
+unfolding writeOutcome writeOutput
+writes-short text entry h = let e = lt-leb _ _ h in record { outcome = rw e; output = rw e }
+
+pub writes-refusal : (r : Refusal) (entry : List ℕ) {made : Outcome (List ℕ)} → refusalOutcome r ≡ made
+    → Writes made entry (refusalOutcome r) entry
+unfolding writeOutcome writeOutput
+writes-refusal r entry {made = result bytes} e = absurd (refusal-not r e)
+writes-refusal r entry {made = refusal number returned} e = record { outcome = refusal-any r e; output = refl }
+
+-- a call that answers with a refusal leaves every byte of the output as it was
+pub refused-keeps : {made : Outcome (List ℕ)} {entry exit : List ℕ} {number returned : ℕ}
+    → Writes made entry (refusal number returned) exit → exit ≡ entry
+unfolding writeOutcome writeOutput
+refused-keeps {made = refusal n r} w = w .output
+refused-keeps {made = result bytes} {entry} {exit} w = go (leb (length bytes) (length entry)) refl
+  where
+    go : (t : Bool) → leb (length bytes) (length entry) ≡ t → exit ≡ entry
+    go true e = let z : _≡_ {A = ℕ} 0 1 = cc (rw e at (w .outcome)) in absurd (omega arith)
+    go false e = rw e at (w .output)
