@@ -51,6 +51,14 @@ module _ {text entry : List ℕ} {end : ℕ} {now : List ℕ} (w : Wrote text en
       let e = le-leb _ _ (w .fits) in
       record { outcome = rw (e, w .ends); output = rw e (w .holds) }
 
+-- and back: what a call that writes a text answers and leaves where there is room for it
+pub writes-whole : (text entry : List ℕ) {answer : Outcome ℕ} {exit : List ℕ} → length text ≤ length entry → Writes (result text) entry answer exit
+    → (answer ≡ result (length text)) × Wrote text entry (length text) exit
+unfolding writeOutcome writeOutput
+writes-whole text entry h w =
+    let e = le-leb _ _ h in
+    (rw e at (w .outcome), record { fits = h; ends = refl; holds = rw e at (w .output) })
+
 pub writes-short : (text entry : List ℕ) → length entry < length text → Writes (result text) entry (refusal 11 0) entry
 unfolding writeOutcome writeOutput
 writes-short text entry h = let e = lt-leb _ _ h in record { outcome = rw e; output = rw e }

@@ -72,6 +72,14 @@ module _ (name : List ℕ) (n : ℕ) (e : n ≡ length (trimmed name)) where
   pub safe-length : (n ≡ 0 → ⊥) → length (safeText name) ≡ n
   safe-length h = rw (safe-some h, length-map) (length-take-le n name kept-within)
 
+  pub safe-within : (most : ℕ) → length name ≤ suc most → length (safeText name) ≤ suc most
+  unfolding safeText
+  safe-within most h = go (map safeByte (trimmed name)) (rw length-map (omega (arith, kept-within)))
+    where
+      go : (t : List ℕ) → length t ≤ suc most → length (orUnderscore t) ≤ suc most
+      go [] q = omega arith
+      go (b ∷ t) q = q
+
   pub display-kept : displayText name ≡ flatMap displayByte (take n name)
   unfolding displayText
   display-kept = rw kept

@@ -3,3 +3,4 @@ pub mod Early
 pub mod Lists
 pub mod Readings
 pub mod Runs
+pub mod Sizes

@@ -1,11 +1,12 @@
 -- The laws of `numberAt`, over the number of bytes. Assumes nothing.
-use Prim.Native.Nat.{ℕ, suc, _+_, _*_, _^_, _≤_, _<_}
+use Prim.Native.Nat.{ℕ, zero, suc, _+_, _*_, _^_, _≤_, _<_}
 use mathlib.Core.Path.{_≡_, sym, ap, _∙_}
 use mathlib.Core.List.{List, [], _∷_, _++_}
 use native.Mathlib.Omega.{arith}
-use native.Mathlib.Nat.{pow-zero, pow-suc, mul-assoc, mul-comm, one-mul}
+use native.Mathlib.Nat.{pow-zero, pow-suc, mul-assoc, mul-comm, one-mul, one-le-pow}
 use lib.ListN.{length, take, drop, getD, length-drop}
-use lib.Seq.{take-add, drop-drop, drop-cons, length-take-le}
+use lib.Seq.{take-add, drop-drop, drop-cons, getD-drop, length-take-le}
+use lib.Dec.{lit<}
 use Rattle.util.specs.Number.{littleEndian, numberAt}
 use Rattle.util.proofs.Parts.{part-of-part}
 
@@ -35,3 +36,13 @@ module _ (p : ℕ) (b : List ℕ) where
 pub number-in-part : (size p q m : ℕ) (b : List ℕ) → p + size ≤ m → numberAt size p (take m (drop q b)) ≡ numberAt size (q + p) b
 unfolding numberAt
 number-in-part size p q m b h = ap littleEndian (part-of-part p size q m b h)
+
+-- a number of n bytes is below 256 ^ n
+little-small : (n : ℕ) (b : List ℕ) → ((k : ℕ) → getD b k 0 < 256) → littleEndian (take n b) < 256 ^ n
+little-small zero b bytes = rw pow-zero (lit< tt)
+little-small (suc n) [] bytes = one-le-pow (suc n) 256 (lit< tt)
+little-small (suc n) (x ∷ xs) bytes = rw pow-suc (omega (arith, bytes 0, little-small n xs (λ k. bytes (suc k))))
+
+pub number-small : (size p : ℕ) (b : List ℕ) → ((k : ℕ) → getD b k 0 < 256) → numberAt size p b < 256 ^ size
+unfolding numberAt
+number-small size p b bytes = little-small size (drop p b) (λ k. rw getD-drop (bytes (p + k)))

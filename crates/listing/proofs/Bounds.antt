@@ -1,0 +1,122 @@
+-- No listing of bytes is longer than 22,211 bytes: twice the line that opens a list, and the lines of 255 textures and 255 palettes, with
+-- the longest names, numbers and words. Assumes nothing.
+use Prim.Native.Nat.{ℕ, zero, suc, _+_, _*_, _^_, _≤_, _<_}
+use mathlib.Core.Path.{_≡_, refl}
+use mathlib.Core.Bool.{Bool, true, false, cond}
+use mathlib.Core.List.{List, [], _∷_, _++_, map}
+use native.Mathlib.Nat.{add-zero, zero-add, add-suc, suc-add, suc-mul}
+use native.Mathlib.Omega.{arith}
+use lib.ListN.{length, getD, length-append, length-map}
+use lib.Dec.{ltb, lit≤, lit<}
+use Rattle.util.specs.Outcome.{result, refusal}
+use Rattle.nds.specs.Params.{format, width, height}
+use Rattle.nds.specs.declared.texture_formats.Alpha.{Alpha}
+use Rattle.nds.specs.declared.texture_formats.Alpha.the-variants.{Opaque, Transparent, Translucent}
+use Rattle.nds.specs.declared.wrap.Wrap.{Wrap}
+use Rattle.nds.specs.declared.wrap.Wrap.the-variants.{Clamp, Repeat, Mirror}
+use Rattle.nds.proofs.Sizes.{width-le, height-le}
+use Rattle.errors.specs.Refusal.{Fault, badStamp, badDummy, badSize, faultNumber}
+use Rattle.errors.specs.declared.Kind.{Kind}
+use Rattle.errors.specs.declared.Kind.the-variants.{Texture, Palette}
+use Rattle.name.specs.Name.{safeText}
+use Rattle.name.proofs.Texts.{safe-within}
+use Rattle.nitro.specs.Script.{Answer, short, fault, whole, run, outcomeOf}
+use Rattle.nitro.specs.Tex.{Contents, readTex}
+use Rattle.nitro.specs.Calls.{textureRecord, paletteRecord}
+use Rattle.nitro.specs.declared.tex.TextureRecord.{TextureRecord}
+use Rattle.nitro.specs.declared.tex.PaletteRecord.{PaletteRecord}
+use Rattle.nitro.proofs.Sizes.{want-small, textures-few, palettes-few, texture-name, palette-name, palette-off}
+use Rattle.listing.specs.Text.{ascii, decimal, line}
+use Rattle.listing.specs.Listing.{wrapWord, alphaWord, textureLine, paletteLine, linesFrom, headed, listsOf, refusedLine, printed, listingOutcome, listingText}
+use Rattle.listing.proofs.Decimals.{decimal-length}
+
+-- the words
+wrap-length : (w : Wrap) → length (wrapWord w) ≤ 6
+unfolding wrapWord ascii
+wrap-length Clamp = lit≤ tt
+wrap-length Repeat = lit≤ tt
+wrap-length Mirror = lit≤ tt
+
+alpha-length : (a : Alpha) → length (alphaWord a) ≤ 11
+unfolding alphaWord ascii
+alpha-length Opaque = lit≤ tt
+alpha-length Transparent = lit≤ tt
+alpha-length Translucent = lit≤ tt
+
+-- the lines
+texture-length : (n : ℕ) (t : TextureRecord) → n < 256 → length (t .name .0) ≤ 16 → length (textureLine n t) ≤ 59
+unfolding textureLine line ascii
+texture-length n t h name =
+    let w = t .params .0 in
+    let number : length (decimal n) ≤ 3 = decimal-length n 2 (omega arith) in
+    let text : length (safeText (t .name .0)) ≤ 16 = safe-within (t .name .0) _ refl 15 name in
+    let digit : length (decimal (format w)) ≤ 1 = decimal-length (format w) 0 (omega arith) in
+    let columns : length (decimal (width w)) ≤ 4 = decimal-length (width w) 3 (omega (arith, width-le w)) in
+    let rows : length (decimal (height w)) ≤ 4 = decimal-length (height w) 3 (omega (arith, height-le w)) in
+    simp length-append (omega (arith, wrap-length (t .«wrap_s»), wrap-length (t .«wrap_t»), alpha-length (t .alpha)))
+
+palette-length : (n : ℕ) (p : PaletteRecord) → n < 256 → length (p .name .0) ≤ 16 → p .off < 2 ^ 19 → length (paletteLine n p) ≤ 28
+unfolding paletteLine line ascii
+palette-length n p h name off =
+    let number : length (decimal n) ≤ 3 = decimal-length n 2 (omega arith) in
+    let text : length (safeText (p .name .0)) ≤ 16 = safe-within (p .name .0) _ refl 15 name in
+    let offset : length (decimal (p .off)) ≤ 6 = decimal-length (p .off) 5 (omega arith) in
+    simp length-append (omega arith)
+
+refused-length : (number returned : ℕ) → number < 100 → returned < 2 ^ 34 → length (refusedLine number returned) ≤ 22211
+unfolding refusedLine line ascii
+refused-length number returned h k =
+    simp length-append (omega (arith, decimal-length number 1 (omega arith), decimal-length returned 10 (omega arith)))
+
+-- the lines of a list, each of which is short
+module _ {A B : Type 0} (make : A → B) (lineOf : ℕ → B → List ℕ) (most : ℕ) where
+  lines-length : (k : ℕ) (xs : List A) → ((i : ℕ) (d : A) → i < length xs → length (lineOf (k + i) (make (getD xs i d))) ≤ most)
+      → length (linesFrom k lineOf (map make xs)) ≤ length xs * most
+  unfolding linesFrom
+  lines-length k [] h = omega arith
+  lines-length k (x ∷ xs) h =
+      let first : length (lineOf k (make x)) ≤ most = rw add-zero at (h 0 x (omega arith)) in
+      let later = lines-length (suc k) xs (λ i d q. rw (add-suc, ← suc-add) at (h (suc i) d (omega arith))) in
+      rw (length-append, suc-mul) (omega arith)
+
+-- and with the line that opens it
+heading-length : (word : List ℕ) (count : ℕ) → length word ≡ 8 → count < 256 → length (line (word ∷ decimal count ∷ [])) ≤ 13
+unfolding line ascii
+heading-length word count e h = simp length-append (omega (arith, decimal-length count 2 (omega arith)))
+
+module _ (b : List ℕ) (bytes : (k : ℕ) → getD b k 0 < 256) where
+  lists-length : {c : Contents} → run readTex b ≡ whole c → length (listsOf c) ≤ 22211
+  unfolding listsOf headed ascii
+  lists-length {c} is =
+      let textures = lines-length (λ t. textureRecord (t .name) (t .word)) textureLine 59 0 (c .textures)
+      (λ i d q. texture-length _ _ (omega (arith, textures-few b bytes is)) (texture-name b bytes is i d q)) in
+      let palettes = lines-length (λ p. paletteRecord (p .name) (p .off)) paletteLine 28 0 (c .palettes)
+      (λ i d q. palette-length _ _ (omega (arith, palettes-few b bytes is)) (palette-name b bytes is i d q) (palette-off b bytes is i d q)) in
+      simp (length-append, length-map)
+      (omega (
+        arith,
+        textures,
+        palettes,
+        textures-few b bytes is,
+        palettes-few b bytes is,
+        heading-length (ascii "textures") (length (c .textures)) refl (textures-few b bytes is),
+        heading-length (ascii "palettes") (length (c .palettes)) refl (palettes-few b bytes is),
+      ))
+
+  fault-length : (found : Fault) → length (refusedLine (faultNumber found) 0) ≤ 22211
+  fault-length badStamp = refused-length _ _ (lit< tt) (lit< tt)
+  fault-length (badDummy Texture) = refused-length _ _ (lit< tt) (lit< tt)
+  fault-length (badDummy Palette) = refused-length _ _ (lit< tt) (lit< tt)
+  fault-length (badSize Texture) = refused-length _ _ (lit< tt) (lit< tt)
+  fault-length (badSize Palette) = refused-length _ _ (lit< tt) (lit< tt)
+
+  pub listing-fits : length (listingText b) ≤ 22211
+  unfolding listingText listingOutcome outcomeOf
+  listing-fits = go (ltb 65536 (length b)) (run readTex b) refl
+    where
+      go : (t : Bool) (a : Answer Contents) → run readTex b ≡ a
+          → length (printed (cond t (refusal 13 0) (outcomeOf a λ c. result (listsOf c)))) ≤ 22211
+      go true a e = refused-length 13 0 (lit< tt) (lit< tt)
+      go false (short needed) e = refused-length 1 needed (lit< tt) (want-small b bytes e)
+      go false (fault found) e = fault-length found
+      go false (whole c) e = lists-length e

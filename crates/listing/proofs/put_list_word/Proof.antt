@@ -1,0 +1,62 @@
+-- `listing::put_list_word` meets its contract, word by word. Assumes nothing.
+use borrow.Author.Needs.{needs}
+use Rattle.listing.specs.Text.{ascii}
+use Rattle.listing.proofs.put_list_word.Statement.{statement}
+use Rattle.listing.proofs.put_list_word.Tie as tie
+
+enum-told : tie.Need-enum-told
+enum-told c = search needs
+
+slice-aggregate-put-field : tie.Need-slice-aggregate-put-field
+slice-aggregate-put-field c = search needs
+
+slice-aggregate-put-field-2 : tie.Need-slice-aggregate-put-field-2
+slice-aggregate-put-field-2 c = search needs
+
+put-field-requires : tie.Need-put-field-requires
+unfolding ascii
+put-field-requires c κs = rw (c .before .before .before .enum-told .given .1) at (c .before .before .before .before .before .before .pre)
+
+enum-told-2 : tie.Need-enum-told-2
+enum-told-2 c = search needs
+
+slice-aggregate-put-field-3 : tie.Need-slice-aggregate-put-field-3
+slice-aggregate-put-field-3 c = search needs
+
+slice-aggregate-put-field-4 : tie.Need-slice-aggregate-put-field-4
+slice-aggregate-put-field-4 c = search needs
+
+put-field-requires-2 : tie.Need-put-field-requires-2
+unfolding ascii
+put-field-requires-2 c κs = rw (c .before .before .before .enum-told2 .given .1) at (c .before .before .before .before .before .before .pre)
+
+same-length : tie.Need-same-length
+same-length c = search needs
+
+returns : tie.Need-returns
+unfolding ascii
+returns c = rw (c .before .before .before .before .before .before .enum-told .given .1) (c .before .before .put-field .ensures)
+
+same-length-2 : tie.Need-same-length-2
+same-length-2 c = search needs
+
+returns-2 : tie.Need-returns-2
+unfolding ascii
+returns-2 c = rw (c .before .before .before .before .before .before .enum-told2 .given .1) (c .before .before .put-field2 .ensures)
+
+pub put-list-word-spec : {M : Type 1} → statement M
+put-list-word-spec =
+    tie.close
+    (tie.spec
+    enum-told
+    slice-aggregate-put-field
+    slice-aggregate-put-field-2
+    put-field-requires
+    enum-told-2
+    slice-aggregate-put-field-3
+    slice-aggregate-put-field-4
+    put-field-requires-2
+    same-length
+    returns
+    same-length-2
+    returns-2)

@@ -1,0 +1,87 @@
+-- The listing of an input: 01, "Listing program". Assumes nothing.
+use Prim.Native.Nat.{ℕ, suc}
+use Prim.Native.String.{String}
+use mathlib.Core.Bool.{cond}
+use mathlib.Core.List.{List, [], _∷_, _++_, map}
+use lib.ListN.{length}
+use lib.Dec.{ltb}
+use Rattle.util.specs.Outcome.{Outcome, result, refusal}
+use Rattle.nds.specs.Params.{format, width, height}
+use Rattle.nds.specs.declared.texture_formats.Alpha.{Alpha}
+use Rattle.nds.specs.declared.texture_formats.Alpha.the-variants.{Opaque, Transparent, Translucent}
+use Rattle.nds.specs.declared.wrap.Wrap.{Wrap}
+use Rattle.nds.specs.declared.wrap.Wrap.the-variants.{Clamp, Repeat, Mirror}
+use Rattle.name.specs.Name.{safeText}
+use Rattle.nitro.specs.Script.{run, outcomeOf}
+use Rattle.nitro.specs.Tex.{Contents, readTex}
+use Rattle.nitro.specs.Calls.{textureRecord, paletteRecord}
+use Rattle.nitro.specs.declared.tex.TextureRecord.{TextureRecord}
+use Rattle.nitro.specs.declared.tex.PaletteRecord.{PaletteRecord}
+use Rattle.listing.specs.Text.{ascii, decimal, line}
+
+-- 01, "Records": "each axis has a wrap word. It is `mirror` .., else `repeat` .., else `clamp`."
+unfoldable pub wrapWord : Wrap → List ℕ
+wrapWord Clamp = ascii "clamp"
+wrapWord Repeat = ascii "repeat"
+wrapWord Mirror = ascii "mirror"
+
+-- "alpha opaque for 0, translucent for 1 and 6, transparent for 5 and 7, .."
+unfoldable pub alphaWord : Alpha → List ℕ
+alphaWord Opaque = ascii "opaque"
+alphaWord Transparent = ascii "transparent"
+alphaWord Translucent = ascii "translucent"
+
+-- 01, "Listing program": "Texture lines: number, safe name, format, width, height, wrap S, wrap T, alpha kind."
+abbrev pub textureFields : (number : ℕ) → TextureRecord → List (List ℕ)
+textureFields number t =
+    decimal number
+    ∷ safeText (t .name .0)
+    ∷ decimal (format (t .params .0))
+    ∷ decimal (width (t .params .0))
+    ∷ decimal (height (t .params .0))
+    ∷ wrapWord (t .«wrap_s»)
+    ∷ wrapWord (t .«wrap_t»)
+    ∷ alphaWord (t .alpha)
+    ∷ []
+
+unfoldable pub textureLine : (number : ℕ) → TextureRecord → List ℕ
+textureLine number t = line (textureFields number t)
+
+-- "Palette lines: number, safe name, offset in bytes."
+unfoldable pub paletteLine : (number : ℕ) → PaletteRecord → List ℕ
+paletteLine number p = line (decimal number ∷ safeText (p .name .0) ∷ decimal (p .off) ∷ [])
+
+-- The lines of a list's records, which are numbered in their order.
+unfoldable pub linesFrom : {A : Type 0} → (number : ℕ) → (ℕ → A → List ℕ) → List A → List ℕ
+linesFrom number lineOf [] = []
+linesFrom number lineOf (first ∷ later) = lineOf number first ++ linesFrom (suc number) lineOf later
+
+-- "Each list opens with its word and its count."
+unfoldable pub headed : {A : Type 0} → (word : String) → (ℕ → A → List ℕ) → List A → List ℕ
+headed word lineOf records = line (ascii word ∷ decimal (length records) ∷ []) ++ linesFrom 0 lineOf records
+
+-- The records of a reading, as the record calls give them.
+abbrev pub textureRecords : Contents → List TextureRecord
+textureRecords c = map (λ t. textureRecord (t .name) (t .word)) (c .textures)
+
+abbrev pub paletteRecords : Contents → List PaletteRecord
+paletteRecords c = map (λ p. paletteRecord (p .name) (p .off)) (c .palettes)
+
+-- The two lists of the sample.
+unfoldable pub listsOf : Contents → List ℕ
+listsOf c = headed "textures" textureLine (textureRecords c) ++ headed "palettes" paletteLine (paletteRecords c)
+
+-- "program's standard input over 65,536 bytes", 13. "13 comes before any reading."
+unfoldable pub listingOutcome : (input : List ℕ) → Outcome (List ℕ)
+listingOutcome input = cond (ltb 65536 (length input)) (refusal 13 0) (outcomeOf (run readTex input) λ c. result (listsOf c))
+
+-- "Otherwise the single line `refused`, number, want". Beside a number that is not 1 stands 0, which the table of refusals has as returned.
+unfoldable pub refusedLine : (number returned : ℕ) → List ℕ
+refusedLine number returned = line (ascii "refused" ∷ decimal number ∷ decimal returned ∷ [])
+
+abbrev pub printed : Outcome (List ℕ) → List ℕ
+printed (result text) = text
+printed (refusal number returned) = refusedLine number returned
+
+unfoldable pub listingText : (input : List ℕ) → List ℕ
+listingText input = printed (listingOutcome input)

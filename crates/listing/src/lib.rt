@@ -1,0 +1,213 @@
+// The listing of a TEX0 block: its textures and palettes as lines of text, or why it is refused.
+mod put;
+
+use crate::put::put;
+use crate::put::put_field;
+use crate::put::put_name;
+use crate::put::put_number;
+use errors::Counted;
+use errors::Kind;
+use errors::Refusal;
+use nds::texture_formats::Alpha;
+use nds::wrap::Wrap;
+use nitro::tex;
+use nitro::tex::PaletteRecord;
+use nitro::tex::Reading;
+use nitro::tex::TextureRecord;
+ghost use mathlib.Core.Path.{_≡_};
+ghost use mathlib.Core.List.{[], _∷_, _++_};
+ghost use lib.ListN.{length};
+ghost use lib.Dec.{ltb};
+ghost use Rattle.util.specs.Outcome.{result};
+ghost use Rattle.errors.specs.Output.{Writes};
+ghost use Rattle.errors.specs.Refusal.{countedOutcome};
+ghost use Rattle.nitro.specs.Script.{run};
+ghost use Rattle.nitro.specs.Tex.{readTex};
+ghost use Rattle.listing.specs.Text.{ascii, decimal, line};
+ghost use Rattle.listing.specs.Listing as Listing;
+ghost use Rattle.listing.specs.Put.{Room, Put, restFrom, listWord, entryLine, listOf};
+
+// The longest input that is read, in bytes.
+pub const MAX_INPUT: usize = 65536;
+
+// No listing is longer than this, in bytes: 255 textures and 255 palettes, with names of 16 bytes and the longest numbers and words.
+pub const MAX_LISTING: usize = 22211;
+
+// A wrap word, and the space or line end behind it.
+fn put_wrap(out: &mut [u8], at: usize, wrap: Wrap, end: &[u8]) -> usize
+    requires { ⌜ Room (Listing.wrapWord wrap ++ now end) (now out) at ⌝ }
+    ensures { λ r. ⌜ Put (Listing.wrapWord wrap ++ now (end .entry)) (now (out .entry)) at (now (out .exit)) r ⌝ }
+{
+    match wrap {
+        Wrap::Clamp => put_field(out, at, b"clamp", end),
+        Wrap::Repeat => put_field(out, at, b"repeat", end),
+        Wrap::Mirror => put_field(out, at, b"mirror", end),
+    }
+}
+
+// An alpha kind, and the space or line end behind it.
+fn put_alpha(out: &mut [u8], at: usize, alpha: Alpha, end: &[u8]) -> usize
+    requires { ⌜ Room (Listing.alphaWord alpha ++ now end) (now out) at ⌝ }
+    ensures { λ r. ⌜ Put (Listing.alphaWord alpha ++ now (end .entry)) (now (out .entry)) at (now (out .exit)) r ⌝ }
+{
+    match alpha {
+        Alpha::Opaque => put_field(out, at, b"opaque", end),
+        Alpha::Transparent => put_field(out, at, b"transparent", end),
+        Alpha::Translucent => put_field(out, at, b"translucent", end),
+    }
+}
+
+// The rest of a texture's line, from its wrap words on.
+fn put_from_wraps(out: &mut [u8], at: usize, texture: TextureRecord) -> usize
+    requires { ⌜ Room (restFrom 5 texture) (now out) at ⌝ }
+    ensures { λ r. ⌜ Put (restFrom 5 texture) (now (out .entry)) at (now (out .exit)) r ⌝ }
+{
+    let wrap_s = texture.wrap_s;
+    let wrap_t = texture.wrap_t;
+    let alpha = texture.alpha;
+    let at = put_wrap(out, at, wrap_s, b" ");
+    let at = put_wrap(out, at, wrap_t, b" ");
+    put_alpha(out, at, alpha, b"\n")
+}
+
+// The rest of a texture's line, from its format on.
+fn put_from_format(out: &mut [u8], at: usize, texture: TextureRecord) -> usize
+    requires { ⌜ Room (restFrom 2 texture) (now out) at ⌝ }
+    ensures { λ r. ⌜ Put (restFrom 2 texture) (now (out .entry)) at (now (out .exit)) r ⌝ }
+{
+    let params = texture.params;
+    let format = params.format();
+    let width = params.width();
+    let height = params.height();
+    let at = put_number(out, at, format.0 as usize, b" ");
+    let at = put_number(out, at, width as usize, b" ");
+    let at = put_number(out, at, height as usize, b" ");
+    put_from_wraps(out, at, texture)
+}
+
+// The line of texture n.
+fn put_texture(out: &mut [u8], at: usize, n: usize, texture: TextureRecord) -> usize
+    requires { ⌜ Room (Listing.textureLine n texture) (now out) at ⌝ }
+    ensures { λ r. ⌜ Put (Listing.textureLine n texture) (now (out .entry)) at (now (out .exit)) r ⌝ }
+{
+    let at = put_number(out, at, n, b" ");
+    let at = put_name(out, at, texture.name, b" ");
+    put_from_format(out, at, texture)
+}
+
+// The line of palette n.
+fn put_palette(out: &mut [u8], at: usize, n: usize, palette: PaletteRecord) -> usize
+    requires { ⌜ Room (Listing.paletteLine n palette) (now out) at ⌝ }
+    ensures { λ r. ⌜ Put (Listing.paletteLine n palette) (now (out .entry)) at (now (out .exit)) r ⌝ }
+{
+    let at = put_number(out, at, n, b" ");
+    let at = put_name(out, at, palette.name, b" ");
+    put_number(out, at, palette.off as usize, b"\n")
+}
+
+// The line of the block's texture or palette n.
+fn put_entry(out: &mut [u8], at: usize, block: &[u8], kind: Kind, n: usize) -> usize
+    requires { ⌜ Room (entryLine kind (run readTex (now block)) n) (now out) at ⌝ }
+    ensures { λ r. ⌜ Put (entryLine kind (run readTex (now (block .entry))) n) (now (out .entry)) at (now (out .exit)) r ⌝ }
+{
+    match kind {
+        Kind::Texture => {
+            let answer = tex::texture(block, n);
+            put_texture(out, at, n, answer.texture)
+        }
+        Kind::Palette => {
+            let answer = tex::palette(block, n);
+            put_palette(out, at, n, answer.palette)
+        }
+    }
+}
+
+// A list's word, and a space.
+fn put_list_word(out: &mut [u8], at: usize, kind: Kind) -> usize
+    requires { ⌜ Room (listWord kind ++ ascii " ") (now out) at ⌝ }
+    ensures { λ r. ⌜ Put (listWord kind ++ ascii " ") (now (out .entry)) at (now (out .exit)) r ⌝ }
+{
+    match kind {
+        Kind::Texture => put_field(out, at, b"textures", b" "),
+        Kind::Palette => put_field(out, at, b"palettes", b" "),
+    }
+}
+
+// The line that a list opens with.
+fn put_heading(out: &mut [u8], at: usize, kind: Kind, count: usize) -> usize
+    requires { ⌜ Room (line (listWord kind ∷ decimal count ∷ [])) (now out) at ⌝ }
+    ensures { λ r. ⌜ Put (line (listWord kind ∷ decimal count ∷ [])) (now (out .entry)) at (now (out .exit)) r ⌝ }
+{
+    let at = put_list_word(out, at, kind);
+    put_number(out, at, count, b"\n")
+}
+
+// The list of the block's textures or palettes, of which there are count.
+fn put_list(out: &mut [u8], at: usize, block: &[u8], kind: Kind, count: usize) -> usize
+    requires { ⌜ Room (listOf kind (run readTex (now block)) count) (now out) at ⌝ }
+    ensures { λ r. ⌜ Put (listOf kind (run readTex (now (block .entry))) count) (now (out .entry)) at (now (out .exit)) r ⌝ }
+{
+    let mut at = put_heading(out, at, kind, count);
+    let mut n = 0;
+    while n < count {
+        at = put_entry(out, at, block, kind, n);
+        n += 1;
+    }
+    at
+}
+
+// The line of a refusal: its number and the value returned beside it.
+fn put_refused(out: &mut [u8], at: usize, number: usize, returned: usize) -> usize
+    requires { ⌜ Room (Listing.refusedLine number returned) (now out) at ⌝ }
+    ensures { λ r. ⌜ Put (Listing.refusedLine number returned) (now (out .entry)) at (now (out .exit)) r ⌝ }
+{
+    let at = put_field(out, at, b"refused", b" ");
+    let at = put_number(out, at, number, b" ");
+    put_number(out, at, returned, b"\n")
+}
+
+// Whether the input is too long to be read.
+fn is_too_long(input: &[u8]) -> bool
+    ensures { λ r. ⌜ r ≡ ltb 65536 (length (now (input .entry))) ⌝ }
+{
+    MAX_INPUT < input.len()
+}
+
+// The whole listing.
+fn put_listing(out: &mut [u8], at: usize, input: &[u8]) -> usize
+    requires { ⌜ Room (Listing.listingText (now input)) (now out) at ⌝ }
+    ensures { λ r. ⌜ Put (Listing.listingText (now (input .entry))) (now (out .entry)) at (now (out .exit)) r ⌝ }
+{
+    if is_too_long(input) {
+        return put_refused(out, at, 13, 0);
+    }
+    match tex::read_tex(input) {
+        Reading::Counts(textures, palettes) => {
+            let at = put_list(out, at, input, Kind::Texture, textures);
+            put_list(out, at, input, Kind::Palette, palettes)
+        }
+        Reading::Refused(refusal) => put_refused(out, at, refusal.number(), refusal.returned()),
+    }
+}
+
+// Room for any listing.
+fn buffer() -> [u8; MAX_LISTING]
+    ensures { λ r. ⌜ 22211 ≡ length r ⌝ }
+{
+    [0; MAX_LISTING]
+}
+
+// Writes the listing of a block to the output, and answers with its length.
+pub fn list(input: &[u8], out: &mut [u8]) -> Counted
+    ensures { λ r. ⌜ Writes (result (Listing.listingText (now (input .entry)))) (now (out .entry)) (countedOutcome r) (now (out .exit)) ⌝ }
+{
+    if MAX_LISTING <= out.len() {
+        return Counted::Count(put_listing(out, 0, input));
+    }
+    let mut text = buffer();
+    let len = put_listing(&mut text, 0, input);
+    if out.len() < len {
+        return Counted::Refused(Refusal::Output);
+    }
+    Counted::Count(put(out, 0, &text[..len]))
+}
