@@ -3,4 +3,5 @@ pub mod Early
 pub mod Lists
 pub mod Readings
 pub mod Runs
+pub mod Sample
 pub mod Sizes
