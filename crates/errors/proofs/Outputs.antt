@@ -4,7 +4,7 @@ use mathlib.Core.Path.{_≡_, refl, _∙_}
 use mathlib.Core.Bool.{Bool, true, false}
 use mathlib.Core.List.{List, [], _∷_, _++_, append-nil}
 use native.Mathlib.Omega.{arith}
-use lib.ListN.{length, drop, set, length-append, length-drop, drop-of-length-le}
+use lib.ListN.{length, take, drop, set, length-append, length-drop, drop-of-length-le}
 use lib.Seq.{take-append-seam, drop-append-add, drop-drop, sets, sets-eq}
 use lib.Dec.{leb}
 use borrow.Author.Tests.{le-leb, lt-leb}
@@ -40,6 +40,13 @@ module _ {text entry : List ℕ} {end : ℕ} {now : List ℕ} (w : Wrote text en
 
   pub wrote-byte : (b : ℕ) → end < length entry → Wrote (text ++ (b ∷ [])) entry (end + 1) (set now end b)
   wrote-byte b h = wrote-more (b ∷ []) (omega arith)
+
+  -- the text is as many of its bytes as were counted
+  pub wrote-text : take end now ≡ text
+  wrote-text = rw (w .ends, w .holds) (take-append-seam text _)
+
+  pub wrote-counts : (end ≤ length now) × (end ≡ length (take end now))
+  wrote-counts = (omega (arith, w .fits, w .ends, wrote-length), rw wrote-text (w .ends))
 
   -- an output that is full
   pub wrote-all : length entry ≤ end → now ≡ text

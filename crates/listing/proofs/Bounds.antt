@@ -26,9 +26,9 @@ use Rattle.nitro.specs.Calls.{textureRecord, paletteRecord}
 use Rattle.nitro.specs.declared.tex.TextureRecord.{TextureRecord}
 use Rattle.nitro.specs.declared.tex.PaletteRecord.{PaletteRecord}
 use Rattle.nitro.proofs.Sizes.{want-small, textures-few, palettes-few, texture-name, palette-name, palette-off}
-use Rattle.listing.specs.Text.{ascii, decimal, line}
+use Rattle.text.specs.Text.{ascii, decimal, line}
 use Rattle.listing.specs.Listing.{wrapWord, alphaWord, textureLine, paletteLine, linesFrom, headed, listsOf, refusedLine, printed, listingOutcome, listingText}
-use Rattle.listing.proofs.Decimals.{decimal-length}
+use Rattle.text.proofs.Decimals.{decimal-length}
 
 -- the words
 wrap-length : (w : Wrap) → length (wrapWord w) ≤ 6

@@ -14,10 +14,11 @@ use Rattle.nitro.specs.Tex.{Contents, readTex}
 use Rattle.nitro.specs.Calls.{entry, textureEntry, paletteEntry, textureRecord, paletteRecord, textureOf, paletteOf, noTexture, noPalette, valueOr}
 use Rattle.errors.specs.declared.Kind.{Kind}
 use Rattle.errors.specs.declared.Kind.the-variants.{Texture, Palette}
-use Rattle.listing.specs.Text.{decimal, line}
+use Rattle.text.specs.Text.{decimal, line}
 use Rattle.listing.specs.Listing.{textureLine, paletteLine, linesFrom, headed, textureRecords, paletteRecords, listsOf}
-use Rattle.listing.specs.Put.{Room, Put, listWord, entryLine, lines, listOf}
-use Rattle.listing.proofs.Puts.{put-length, put-then}
+use Rattle.text.specs.Put.{Room, Put}
+use Rattle.listing.specs.Lines.{listWord, entryLine, lines, listOf}
+use Rattle.text.proofs.Puts.{put-length, put-then}
 
 -- the first n lines are a part of all
 lines-part : (f : ℕ → List ℕ) (n count : ℕ) → n ≤ count → length (lines f n) ≤ length (lines f count)

@@ -16,7 +16,7 @@ use Rattle.nitro.specs.Tex.{Contents, readTex}
 use Rattle.nitro.specs.Calls.{Counts, countsOf, readingOf}
 use Rattle.nitro.proofs.Runs.{whole-outcome}
 use Rattle.listing.specs.Listing.{refusedLine, printed, listsOf, listingOutcome, listingText}
-use Rattle.listing.specs.Put.{listOf}
+use Rattle.listing.specs.Lines.{listOf}
 use Rattle.listing.proofs.Lines.{lists-whole}
 
 -- an input that is too long is not read

@@ -1,3 +1,2 @@
+pub mod Lines
 pub mod Listing
-pub mod Put
-pub mod Text

@@ -17,7 +17,7 @@ use Rattle.nitro.specs.Tex.{Contents, readTex}
 use Rattle.nitro.specs.Calls.{textureRecord, paletteRecord}
 use Rattle.nitro.specs.declared.tex.TextureRecord.{TextureRecord}
 use Rattle.nitro.specs.declared.tex.PaletteRecord.{PaletteRecord}
-use Rattle.listing.specs.Text.{ascii, decimal, line}
+use Rattle.text.specs.Text.{ascii, decimal, line}
 
 -- 01, "Records": "each axis has a wrap word. It is `mirror` .., else `repeat` .., else `clamp`."
 unfoldable pub wrapWord : Wrap → List ℕ

@@ -1,37 +1,50 @@
 // The listing of a TEX0 block: its textures and palettes as lines of text, or why it is refused.
-mod put;
-
-use crate::put::put;
-use crate::put::put_field;
-use crate::put::put_name;
-use crate::put::put_number;
 use errors::Counted;
 use errors::Kind;
 use errors::Refusal;
+use name::Name;
 use nds::texture_formats::Alpha;
 use nds::wrap::Wrap;
 use nitro::tex;
 use nitro::tex::PaletteRecord;
 use nitro::tex::Reading;
 use nitro::tex::TextureRecord;
+use text::put;
+use text::put_field;
+use text::put_number;
 ghost use mathlib.Core.Path.{_≡_};
 ghost use mathlib.Core.List.{[], _∷_, _++_};
 ghost use lib.ListN.{length};
 ghost use lib.Dec.{ltb};
+ghost use Rattle.io.specs.Counts.{Counts};
 ghost use Rattle.util.specs.Outcome.{result};
 ghost use Rattle.errors.specs.Output.{Writes};
 ghost use Rattle.errors.specs.Refusal.{countedOutcome};
 ghost use Rattle.nitro.specs.Script.{run};
 ghost use Rattle.nitro.specs.Tex.{readTex};
-ghost use Rattle.listing.specs.Text.{ascii, decimal, line};
+ghost use Rattle.name.specs.Name.{safeText};
+ghost use Rattle.text.specs.Text.{ascii, decimal, line};
+ghost use Rattle.text.specs.Put.{Room, Put};
 ghost use Rattle.listing.specs.Listing as Listing;
-ghost use Rattle.listing.specs.Put.{Room, Put, restFrom, listWord, entryLine, listOf};
+ghost use Rattle.listing.specs.Lines.{restFrom, listWord, entryLine, listOf};
 
 // The longest input that is read, in bytes.
 pub const MAX_INPUT: usize = 65536;
 
 // No listing is longer than this, in bytes: 255 textures and 255 palettes, with names of 16 bytes and the longest numbers and words.
 pub const MAX_LISTING: usize = 22211;
+
+// A name in letters, digits and underscores.
+fn put_name(out: &mut [u8], at: usize, name: Name, end: &[u8]) -> usize
+    requires { ⌜ Room (safeText (name .0) ++ now end) (now out) at ⌝ }
+    ensures { λ r. ⌜ Put (safeText (name .0) ++ now (end .entry)) (now (out .entry)) at (now (out .exit)) r ⌝ }
+{
+    match name.print_safe(&mut out[at..]) {
+        Counted::Count(len) => put(out, at + len, end),
+        // The text has room behind `at`.
+        Counted::Refused(_) => at,
+    }
+}
 
 // A wrap word, and the space or line end behind it.
 fn put_wrap(out: &mut [u8], at: usize, wrap: Wrap, end: &[u8]) -> usize
@@ -210,4 +223,15 @@ pub fn list(input: &[u8], out: &mut [u8]) -> Counted
         return Counted::Refused(Refusal::Output);
     }
     Counted::Count(put(out, 0, &text[..len]))
+}
+
+// The same to an output that has room for any listing, so that it is never refused.
+pub fn list_whole(input: &[u8], out: &mut [u8; MAX_LISTING]) -> usize
+    ensures { λ r. ⌜ Writes (result (Listing.listingText (now (input .entry)))) (now (out .entry)) (result r) (now (out .exit)) ⌝ }
+    ensures { λ r. ⌜ Counts r (now (out .exit)) ⌝ }
+{
+    match list(input, out) {
+        Counted::Count(len) => len,
+        Counted::Refused(_) => 0,
+    }
 }

@@ -9,9 +9,9 @@ use denote.Ref.{now}
 use borrow.Author.Needs.{needs}
 use Rattle.errors.proofs.Outputs.{writes-short}
 use Rattle.listing.specs.Listing.{listingText}
-use Rattle.listing.specs.Put.{Room}
+use Rattle.text.specs.Put.{Room}
 use Rattle.listing.proofs.Bounds.{listing-fits}
-use Rattle.listing.proofs.Puts.{put-length, put-writes, put-text}
+use Rattle.text.proofs.Puts.{put-length, put-writes, put-text}
 use Rattle.listing.proofs.list.Statement.{statement}
 use Rattle.listing.proofs.list.Tie as tie
 use Rattle.listing.proofs.list.Reads as reads

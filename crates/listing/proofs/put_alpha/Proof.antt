@@ -1,6 +1,6 @@
 -- `listing::put_alpha` meets its contract, word by word. Assumes nothing.
 use borrow.Author.Needs.{needs}
-use Rattle.listing.specs.Text.{ascii}
+use Rattle.text.specs.Text.{ascii}
 use Rattle.listing.specs.Listing.{alphaWord}
 use Rattle.listing.proofs.put_alpha.Statement.{statement}
 use Rattle.listing.proofs.put_alpha.Tie as tie

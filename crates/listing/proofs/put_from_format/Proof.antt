@@ -3,9 +3,10 @@ use mathlib.Core.List.{_++_}
 use denote.Ref.{now}
 use borrow.Author.Needs.{needs}
 use Rattle.nds.specs.Params.{format, width, height}
-use Rattle.listing.specs.Text.{ascii, decimal, line}
-use Rattle.listing.specs.Put.{Put, restFrom}
-use Rattle.listing.proofs.Puts.{put-then, room-first, room-then}
+use Rattle.text.specs.Text.{ascii, decimal, line}
+use Rattle.text.specs.Put.{Put}
+use Rattle.listing.specs.Lines.{restFrom}
+use Rattle.text.proofs.Puts.{put-then, put-number, room-first, room-then, room-number}
 use Rattle.listing.proofs.put_from_format.Statement.{statement}
 use Rattle.listing.proofs.put_from_format.Tie as tie
 
@@ -14,19 +15,19 @@ first : (c : tie.After-put-number)
     → let w = c .before .before .before .before .before .before .before .before .before .args .texture .params .0 in
     Put (decimal (format w) ++ ascii " ") (now (c .before .before .before .before .before .before .before .before .before .args .out)) (c .before .before .before .before .before .before .before .before .before .args .at) (c .put-number .last .0) (c .put-number .result)
 unfolding ascii
-first c = rw (c .before .before .before .before .before .before .format .ensures) at (c .put-number .ensures)
+first c = put-number (c .before .before .before .before .before .before .format .ensures) _ (c .put-number .ensures)
 
 second : (c : tie.After-put-number2)
     → let w = c .before .before .before .before .before .before .before .before .before .before .before .before .before .before .args .texture .params .0 in
     Put (decimal (width w) ++ ascii " ") (c .before .before .before .before .before .put-number .last .0) (c .before .before .before .before .before .put-number .result) (c .put-number2 .last .0) (c .put-number2 .result)
 unfolding ascii
-second c = rw (c .before .before .before .before .before .before .before .before .before .before .width .ensures) at (c .put-number2 .ensures)
+second c = put-number (c .before .before .before .before .before .before .before .before .before .before .width .ensures) _ (c .put-number2 .ensures)
 
 third : (c : tie.After-put-number3)
     → let w = c .before .before .before .before .before .before .before .before .before .before .before .before .before .before .before .before .before .before .before .args .texture .params .0 in
     Put (decimal (height w) ++ ascii " ") (c .before .before .before .before .before .put-number2 .last .0) (c .before .before .before .before .before .put-number2 .result) (c .put-number3 .last .0) (c .put-number3 .result)
 unfolding ascii
-third c = rw (c .before .before .before .before .before .before .before .before .before .before .before .before .before .before .height .ensures) at (c .put-number3 .ensures)
+third c = put-number (c .before .before .before .before .before .before .before .before .before .before .before .before .before .before .height .ensures) _ (c .put-number3 .ensures)
 
 format-requires : tie.Need-format-requires
 format-requires c κs = search needs
@@ -45,7 +46,7 @@ slice-aggregate-put-number c = search needs
 
 put-number-requires : tie.Need-put-number-requires
 unfolding ascii line restFrom
-put-number-requires c κs = rw (c .before .before .before .before .before .format .ensures) (room-first _ _ (c .before .before .before .before .before .before .before .before .pre))
+put-number-requires c κs = room-number (c .before .before .before .before .before .format .ensures) _ (room-first _ _ (c .before .before .before .before .before .before .before .before .pre))
 
 cast-put-number-2 : tie.Need-cast-put-number-2
 cast-put-number-2 c = search needs
@@ -55,7 +56,7 @@ slice-aggregate-put-number-2 c = search needs
 
 put-number-requires-2 : tie.Need-put-number-requires-2
 unfolding ascii line restFrom
-put-number-requires-2 c κs = rw (c .before .before .before .before .before .before .before .before .before .width .ensures) (room-first _ _ (room-then (first (c .before .before .before .before)) (c .before .before .before .before .before .before .before .before .before .before .before .before .before .pre)))
+put-number-requires-2 c κs = room-number (c .before .before .before .before .before .before .before .before .before .width .ensures) _ (room-first _ _ (room-then (first (c .before .before .before .before)) (c .before .before .before .before .before .before .before .before .before .before .before .before .before .pre)))
 
 cast-put-number-3 : tie.Need-cast-put-number-3
 cast-put-number-3 c = search needs
@@ -67,7 +68,7 @@ put-number-requires-3 : tie.Need-put-number-requires-3
 unfolding ascii line restFrom
 put-number-requires-3 c κs =
     let p = c .before .before .before .before in
-    rw (c .before .before .before .before .before .before .before .before .before .before .before .before .before .height .ensures) (room-first _ _ (room-then (second p) (room-then (first (p .before .before .before .before .before)) (p .before .before .before .before .before .before .before .before .before .before .before .before .before .before .pre))))
+    room-number (c .before .before .before .before .before .before .before .before .before .before .before .before .before .height .ensures) _ (room-first _ _ (room-then (second p) (room-then (first (p .before .before .before .before .before)) (p .before .before .before .before .before .before .before .before .before .before .before .before .before .before .pre))))
 
 put-from-wraps-requires : tie.Need-put-from-wraps-requires
 unfolding ascii line restFrom

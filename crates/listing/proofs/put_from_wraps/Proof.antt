@@ -1,8 +1,8 @@
 -- `listing::put_from_wraps` meets its contract: the line's fields are put one behind the other. Assumes nothing.
 use borrow.Author.Needs.{needs}
-use Rattle.listing.specs.Text.{ascii, line}
-use Rattle.listing.specs.Put.{restFrom}
-use Rattle.listing.proofs.Puts.{put-then, room-first, room-then}
+use Rattle.text.specs.Text.{ascii, line}
+use Rattle.listing.specs.Lines.{restFrom}
+use Rattle.text.proofs.Puts.{put-then, room-first, room-then}
 use Rattle.listing.proofs.put_from_wraps.Statement.{statement}
 use Rattle.listing.proofs.put_from_wraps.Tie as tie
 

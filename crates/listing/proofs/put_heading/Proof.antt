@@ -1,7 +1,7 @@
 -- `listing::put_heading` meets its contract: the line's fields are put one behind the other. Assumes nothing.
 use borrow.Author.Needs.{needs}
-use Rattle.listing.specs.Text.{ascii, line}
-use Rattle.listing.proofs.Puts.{put-then, room-first, room-then}
+use Rattle.text.specs.Text.{ascii, line}
+use Rattle.text.proofs.Puts.{put-then, room-first, room-then}
 use Rattle.listing.proofs.put_heading.Statement.{statement}
 use Rattle.listing.proofs.put_heading.Tie as tie
 

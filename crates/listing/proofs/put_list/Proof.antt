@@ -6,9 +6,10 @@ use native.Mathlib.Omega.{arith}
 use denote.Ref.{now}
 use Rattle.nitro.specs.Script.{run}
 use Rattle.nitro.specs.Tex.{readTex}
-use Rattle.listing.specs.Text.{line, decimal}
-use Rattle.listing.specs.Put.{Room, Put, entryLine, lines, listWord, listOf}
-use Rattle.listing.proofs.Puts.{put-none, put-then, put-length, room-first, room-then}
+use Rattle.text.specs.Text.{line, decimal}
+use Rattle.text.specs.Put.{Room, Put}
+use Rattle.listing.specs.Lines.{entryLine, lines, listWord, listOf}
+use Rattle.text.proofs.Puts.{put-none, put-then, put-length, room-first, room-then}
 use Rattle.listing.proofs.Lines.{room-line, put-line}
 use Rattle.listing.proofs.put_list.Statement.{statement}
 use Rattle.listing.proofs.put_list.Tie as tie

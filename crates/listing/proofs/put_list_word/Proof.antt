@@ -1,6 +1,6 @@
 -- `listing::put_list_word` meets its contract, word by word. Assumes nothing.
 use borrow.Author.Needs.{needs}
-use Rattle.listing.specs.Text.{ascii}
+use Rattle.text.specs.Text.{ascii}
 use Rattle.listing.proofs.put_list_word.Statement.{statement}
 use Rattle.listing.proofs.put_list_word.Tie as tie
 

@@ -1,8 +1,8 @@
 -- `listing::put_palette` meets its contract: the line's fields are put one behind the other. Assumes nothing.
 use borrow.Author.Needs.{needs}
-use Rattle.listing.specs.Text.{ascii, line}
+use Rattle.text.specs.Text.{ascii, line}
 use Rattle.listing.specs.Listing.{paletteLine}
-use Rattle.listing.proofs.Puts.{put-then, room-first, room-then}
+use Rattle.text.proofs.Puts.{put-then, room-first, room-then}
 use Rattle.listing.proofs.put_palette.Statement.{statement}
 use Rattle.listing.proofs.put_palette.Tie as tie
 

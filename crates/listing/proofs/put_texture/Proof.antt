@@ -1,9 +1,9 @@
 -- `listing::put_texture` meets its contract: the line's fields are put one behind the other. Assumes nothing.
 use borrow.Author.Needs.{needs}
-use Rattle.listing.specs.Text.{ascii, line}
+use Rattle.text.specs.Text.{ascii, line}
 use Rattle.listing.specs.Listing.{textureLine}
-use Rattle.listing.specs.Put.{restFrom}
-use Rattle.listing.proofs.Puts.{put-then, room-first, room-then}
+use Rattle.listing.specs.Lines.{restFrom}
+use Rattle.text.proofs.Puts.{put-then, room-first, room-then}
 use Rattle.listing.proofs.put_texture.Statement.{statement}
 use Rattle.listing.proofs.put_texture.Tie as tie
 

@@ -1,6 +1,6 @@
 -- `listing::put_wrap` meets its contract, word by word. Assumes nothing.
 use borrow.Author.Needs.{needs}
-use Rattle.listing.specs.Text.{ascii}
+use Rattle.text.specs.Text.{ascii}
 use Rattle.listing.specs.Listing.{wrapWord}
 use Rattle.listing.proofs.put_wrap.Statement.{statement}
 use Rattle.listing.proofs.put_wrap.Tie as tie

@@ -1,21 +1,17 @@
--- `list_tex::whole_listing` meets its contract: every listing has room, so the call is never declined. Assumes nothing.
-use Prim.Native.Nat.{_≤_}
-use mathlib.Core.Path.{_≡_, _∙_}
+-- `listing::list_whole` meets its contract: every listing has room, so the call is never declined. Assumes nothing.
+use mathlib.Core.Path.{_≡_}
 use native.Mathlib.Omega.{arith}
-use lib.ListN.{length, take, length-append, length-drop}
-use lib.Seq.{take-append-seam}
+use lib.ListN.{length}
 use denote.Ref.{now}
 use borrow.Author.Needs.{needs}
 use Rattle.util.specs.Outcome.{result}
 use Rattle.errors.specs.Refusal.{countedOutcome}
 use Rattle.errors.proofs.Refusals.{refusal-not}
-use Rattle.errors.proofs.Outputs.{Wrote, wrote-length, writes-whole}
+use Rattle.errors.proofs.Outputs.{Wrote, wrote-counts, writes-whole}
 use Rattle.listing.specs.Listing.{listingText}
 use Rattle.listing.proofs.Bounds.{listing-fits}
-use Rattle.list_tex.proofs.whole_listing.Statement.{statement}
-use Rattle.list_tex.proofs.whole_listing.Tie as tie
-use Rattle.list_tex.proofs.whole_listing.Reads as reads
-use Rattle.list_tex.proofs.whole_listing.Lts as lts
+use Rattle.listing.proofs.list_whole.Statement.{statement}
+use Rattle.listing.proofs.list_whole.Tie as tie
 
 written : (c : tie.After-list)
     → let s = c .before .before .before in
@@ -36,14 +32,14 @@ enum-told c = search needs
 
 returns : tie.Need-returns
 returns c =
+    let len = c .before .len .given in
     let (told, wrote) = written (c .before .before .before) in
     let text = listingText (now (c .before .before .before .before .before .before .args .input)) in
-    let e : c .before .len .given .0 .0 ≡ length text = cc (rw (c .before .len .given .1) at told) in
-    let same : take (c .before .len .given .0 .0) (c .before .before .before .list .last .1 .0) ≡ text = rw (e, wrote .holds) (take-append-seam text _) in
-    ((omega (arith, wrote-length wrote, wrote .fits), rw same e), same)
+    let same : len .0 .0 ≡ length text = cc (rw (len .1) at told) in
+    (rw (len .1) at (c .before .before .before .list .ensures), rw same (wrote-counts wrote))
 
 returns-2 : tie.Need-returns-2
 returns-2 c = absurd (refusal-not (c .enum-told .given .0 .0) (rw (c .enum-told .given .1) at (written (c .before .before) .0)))
 
-pub whole-listing-spec : {M : Type 1} → statement M
-whole-listing-spec = tie.close (tie.spec list-requires enum-known-len enum-told returns returns-2)
+pub list-whole-spec : {M : Type 1} → statement M
+list-whole-spec = tie.close (tie.spec list-requires enum-known-len enum-told returns returns-2)

@@ -1,13 +1,13 @@
--- `listing::put::put` meets its contract: the loop writes the text byte after byte. Assumes nothing.
+-- `text::put` meets its contract: the loop writes the text byte after byte. Assumes nothing.
 use Prim.Native.Nat.{_+_, _-_, _≤_}
 use mathlib.Core.Path.{_≡_, refl, _∙_, ap}
 use native.Mathlib.Omega.{arith}
 use lib.ListN.{length, take}
 use lib.Seq.{sets, length-sets, take-length}
 use borrow.Author.Needs.{needs}
-use Rattle.listing.proofs.Puts.{put-byte}
-use Rattle.listing.proofs.put.put.Statement.{statement}
-use Rattle.listing.proofs.put.put.Tie as tie
+use Rattle.text.proofs.Puts.{put-byte}
+use Rattle.text.proofs.put.Statement.{statement}
+use Rattle.text.proofs.put.Tie as tie
 
 abbrev Inv-loop : tie.InvT-loop
 Inv-loop out₀ at text i₀ out i = (i ≤ length text) × (out ≡ sets out₀ at (take i text))

@@ -1,4 +1,4 @@
--- `listing::put::put_name` meets its contract: the text has room from the place on, so the name's own call writes it. Assumes nothing.
+-- `listing::put_name` meets its contract: the text has room from the place on, so the name's own call writes it. Assumes nothing.
 use mathlib.Core.Path.{_≡_, refl}
 use native.Mathlib.Omega.{arith}
 use lib.ListN.{length}
@@ -6,16 +6,15 @@ use denote.Ref.{now}
 use borrow.Author.Needs.{needs}
 use Rattle.errors.specs.Refusal.{countedOutcome}
 use Rattle.errors.proofs.Refusals.{refusal-not}
-use Rattle.listing.specs.Put.{Put}
+use Rattle.text.specs.Put.{Put}
 use borrow.Rule.Slice.PartMut.{putMid}
 use Prim.Native.Nat.{_+_, _-_}
 use Rattle.name.specs.Name.{safeText}
-use Rattle.listing.proofs.Puts.{PartWrote, part-wrote, put-then, room-first, room-then}
-use Rattle.listing.proofs.put.put_name.Statement.{statement}
-use Rattle.listing.proofs.put.put_name.Tie as tie
-use Rattle.listing.proofs.put.put_name.Reads as reads
-use Rattle.listing.proofs.put.put_name.Lts as lts
-use Rattle.listing.proofs.put.put.Reads as put-reads
+use Rattle.text.proofs.Puts.{PartWrote, part-wrote, put-then, room-first, room-then}
+use Rattle.listing.proofs.put_name.Statement.{statement}
+use Rattle.listing.proofs.put_name.Tie as tie
+use Rattle.listing.proofs.put_name.Reads as reads
+use Rattle.listing.proofs.put_name.Lts as lts
 
 wrote : (c : tie.After-print-safe)
     → let s = c .before .before .before .before in

@@ -9,7 +9,7 @@ use lib.ListN.{length, length-append}
 use lib.Dec.{ltb, lit<}
 use borrow.Author.Tests.{ltb-true, ltb-false, lt-ltb}
 use Rattle.io.specs.Digits.{glyph, digits, Fewest}
-use Rattle.listing.specs.Text.{decimalBelow, decimal}
+use Rattle.text.specs.Text.{decimalBelow, decimal}
 
 -- a number below 10 ^ (k + 1) has at most k + 1 digits
 below-length : (limit n k : ℕ) → n < 10 ^ suc k → length (decimalBelow limit n) ≤ suc k

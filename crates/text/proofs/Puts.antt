@@ -6,12 +6,13 @@ use native.Mathlib.Nat.{add-zero, zero-add, add-suc, suc-add}
 use native.Mathlib.Numerals.{add-one}
 use native.Mathlib.Omega.{arith}
 use lib.ListN.{length, take, drop, set, getD, length-append, length-drop}
-use lib.Seq.{take-suc, take-append-seam, take-all, drop-drop, drop-length, length-take-le, sets, sets-eq, length-sets}
+use lib.Seq.{take-suc, take-all, drop-drop, drop-length, length-take-le, sets, sets-eq, length-sets}
 use borrow.Rule.Slice.PartMut.{midOf, postOf, putMid, post-is}
 use Rattle.util.specs.Outcome.{Outcome, result}
 use Rattle.errors.specs.Output.{Writes}
-use Rattle.errors.proofs.Outputs.{Wrote, writes-fits, writes-whole}
-use Rattle.listing.specs.Put.{Room, Put}
+use Rattle.errors.proofs.Outputs.{Wrote, wrote-text, writes-fits, writes-whole}
+use Rattle.text.specs.Text.{decimal}
+use Rattle.text.specs.Put.{Room, Put}
 
 sets-append : (xs ys l : List ℕ) (i : ℕ) → sets l i (xs ++ ys) ≡ sets (sets l i xs) (i + length xs) ys
 sets-append [] ys l i = rw add-zero
@@ -44,6 +45,14 @@ module _ {text entry exit : List ℕ} {at end : ℕ} (p : Put text entry at exit
 pub room-first : (text more : List ℕ) {entry : List ℕ} {at : ℕ} → Room (text ++ more) entry at → Room text entry at
 room-first text more r = record { fits = omega (arith, r .fits, length-append text more) }
 
+-- a number that has another name
+module _ {n m : ℕ} (same : n ≡ m) (end : List ℕ) {entry : List ℕ} {at : ℕ} where
+  pub room-number : Room (decimal m ++ end) entry at → Room (decimal n ++ end) entry at
+  room-number r = rw same r
+
+  pub put-number : {exit : List ℕ} {last : ℕ} → Put (decimal n ++ end) entry at exit last → Put (decimal m ++ end) entry at exit last
+  put-number p = rw same at p
+
 -- a text that a call wrote to the output's part from the place on
 pub record PartWrote (text entry : List ℕ) (at : ℕ) (answer : Outcome ℕ) (part : List ℕ) : Type 0 where
   pub outcome : answer ≡ result (length text)
@@ -70,4 +79,4 @@ module _ {text entry exit : List ℕ} {end : ℕ} (r : Room text entry 0) (p : P
   put-writes = writes-fits wrote
 
   pub put-text : take end exit ≡ text
-  put-text = rw (wrote .ends, wrote .holds) (take-append-seam text _)
+  put-text = wrote-text wrote

@@ -1,11 +1,11 @@
--- `listing::put::put_number` meets its contract: `io` gives the fewest digits, which are the decimal number. Assumes nothing.
+-- `text::put_number` meets its contract: `io` gives the fewest digits, which are the decimal number. Assumes nothing.
 use mathlib.Core.Path.{_≡_, _∙_}
 use lib.ListN.{take}
 use borrow.Author.Needs.{needs}
-use Rattle.listing.specs.Text.{decimal}
-use Rattle.listing.proofs.Decimals.{decimal-digits}
-use Rattle.listing.proofs.put.put_number.Statement.{statement}
-use Rattle.listing.proofs.put.put_number.Tie as tie
+use Rattle.text.specs.Text.{decimal}
+use Rattle.text.proofs.Decimals.{decimal-digits}
+use Rattle.text.proofs.put_number.Statement.{statement}
+use Rattle.text.proofs.put_number.Tie as tie
 
 digits : (c : tie.After-decimal) → take (c .decimal .result) (c .decimal .last .1 .0) ≡ decimal (c .before .before .before .before .args .n)
 digits c = c .decimal .ensures .1 .1 ∙ decimal-digits _ _ (c .decimal .ensures .1 .0)

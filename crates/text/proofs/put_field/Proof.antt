@@ -1,8 +1,8 @@
--- `listing::put::put_field` meets its contract: one text is put behind the other. Assumes nothing.
+-- `text::put_field` meets its contract: one text is put behind the other. Assumes nothing.
 use borrow.Author.Needs.{needs}
-use Rattle.listing.proofs.Puts.{put-then, room-first, room-then}
-use Rattle.listing.proofs.put.put_field.Statement.{statement}
-use Rattle.listing.proofs.put.put_field.Tie as tie
+use Rattle.text.proofs.Puts.{put-then, room-first, room-then}
+use Rattle.text.proofs.put_field.Statement.{statement}
+use Rattle.text.proofs.put_field.Tie as tie
 
 put-requires : tie.Need-put-requires
 put-requires c κs = room-first _ _ (c .before .before .before .before .pre)

@@ -1,0 +1,1 @@
+../../list_tex/src/main.rt
