@@ -1,10 +1,10 @@
 -- No listing of bytes is longer than 22,211 bytes: twice the line that opens a list, and the lines of 255 textures and 255 palettes, with
 -- the longest names, numbers and words. Assumes nothing.
-use Prim.Native.Nat.{ℕ, zero, suc, _+_, _*_, _^_, _≤_, _<_}
+use Prim.Native.Nat.{ℕ, suc, _+_, _*_, _^_, _≤_, _<_}
 use mathlib.Core.Path.{_≡_, refl}
 use mathlib.Core.Bool.{Bool, true, false, cond}
-use mathlib.Core.List.{List, [], _∷_, _++_, map}
-use native.Mathlib.Nat.{add-zero, zero-add, add-suc, suc-add, suc-mul}
+use mathlib.Core.List.{List, [], _∷_, map}
+use native.Mathlib.Nat.{add-zero, add-suc, suc-add, suc-mul}
 use native.Mathlib.Omega.{arith}
 use lib.ListN.{length, getD, length-append, length-map}
 use lib.Dec.{ltb, lit≤, lit<}
@@ -16,7 +16,6 @@ use Rattle.nds.specs.declared.wrap.Wrap.{Wrap}
 use Rattle.nds.specs.declared.wrap.Wrap.the-variants.{Clamp, Repeat, Mirror}
 use Rattle.nds.proofs.Sizes.{width-le, height-le}
 use Rattle.errors.specs.Refusal.{Fault, badStamp, badDummy, badSize, faultNumber}
-use Rattle.errors.specs.declared.Kind.{Kind}
 use Rattle.errors.specs.declared.Kind.the-variants.{Texture, Palette}
 use Rattle.name.specs.Name.{safeText}
 use Rattle.name.proofs.Texts.{safe-within}
@@ -27,7 +26,8 @@ use Rattle.nitro.specs.declared.tex.TextureRecord.{TextureRecord}
 use Rattle.nitro.specs.declared.tex.PaletteRecord.{PaletteRecord}
 use Rattle.nitro.proofs.Sizes.{want-small, textures-few, palettes-few, texture-name, palette-name, palette-off}
 use Rattle.text.specs.Text.{ascii, decimal, line}
-use Rattle.listing.specs.Listing.{wrapWord, alphaWord, textureLine, paletteLine, linesFrom, headed, listsOf, refusedLine, printed, listingOutcome, listingText}
+use Rattle.listing.specs.Listing.{wrapWord, alphaWord, textureLine, paletteLine, linesFrom, headed, listsOf}
+use Rattle.listing.specs.Listing.{refusedLine, printed, listingOutcome, listingText}
 use Rattle.text.proofs.Decimals.{decimal-length}
 
 -- the words

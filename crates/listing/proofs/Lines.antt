@@ -1,6 +1,6 @@
 -- The laws of lists of lines: by their count, as the code writes them, and by the records of a reading. Assumes nothing.
 use Prim.Native.Nat.{ℕ, zero, suc, _+_, _≤_, _<_}
-use mathlib.Core.Path.{_≡_, refl, sym, ap, _∙_}
+use mathlib.Core.Path.{_≡_, refl, _∙_}
 use mathlib.Core.List.{List, [], _∷_, _++_, map, append-nil, append-assoc}
 use mathlib.Core.Bool.{Bool, true, false}
 use native.Mathlib.Nat.{add-zero, zero-add, add-suc, suc-add}
@@ -14,10 +14,9 @@ use Rattle.nitro.specs.Tex.{Contents, readTex}
 use Rattle.nitro.specs.Calls.{entry, textureEntry, paletteEntry, textureRecord, paletteRecord, textureOf, paletteOf, noTexture, noPalette, valueOr}
 use Rattle.errors.specs.declared.Kind.{Kind}
 use Rattle.errors.specs.declared.Kind.the-variants.{Texture, Palette}
-use Rattle.text.specs.Text.{decimal, line}
-use Rattle.listing.specs.Listing.{textureLine, paletteLine, linesFrom, headed, textureRecords, paletteRecords, listsOf}
+use Rattle.listing.specs.Listing.{textureLine, paletteLine, linesFrom, headed, listsOf}
 use Rattle.text.specs.Put.{Room, Put}
-use Rattle.listing.specs.Lines.{listWord, entryLine, lines, listOf}
+use Rattle.listing.specs.Lines.{entryLine, lines, listOf}
 use Rattle.text.proofs.Puts.{put-length, put-then}
 
 -- the first n lines are a part of all
@@ -26,7 +25,8 @@ unfolding lines
 lines-part f n zero h = let e : n ≡ zero = omega arith in rw e (omega arith)
 lines-part f n (suc count) h = go (leb n count) refl (λ q. lines-part f n count q)
   where
-    go : (t : Bool) → leb n count ≡ t → (n ≤ count → length (lines f n) ≤ length (lines f count)) → length (lines f n) ≤ length (lines f (suc count))
+    go : (t : Bool) → leb n count ≡ t → (n ≤ count → length (lines f n) ≤ length (lines f count))
+        → length (lines f n) ≤ length (lines f (suc count))
     go true q first = omega (arith, first (leb-true n count q), length-append (lines f count) (f count))
     go false q first = let e : n ≡ suc count = omega (arith, leb-false n count q) in rw e (omega arith)
 
@@ -64,6 +64,8 @@ module _ (b : List ℕ) {c : Contents} (is : run readTex b ≡ whole c) where
   pub lists-whole : listOf Texture (run readTex b) (length (c .textures)) ++ listOf Palette (run readTex b) (length (c .palettes)) ≡ listsOf c
   unfolding listOf listsOf headed textureOf paletteOf textureEntry paletteEntry outcomeOf
   lists-whole =
-      let textures = lines-listed Texture (λ t. textureRecord (t .name) (t .word)) noTexture textureLine (c .textures) 0 (entryLine Texture (run readTex b)) (λ n. rw (is, zero-add)) in
-      let palettes = lines-listed Palette (λ p. paletteRecord (p .name) (p .off)) noPalette paletteLine (c .palettes) 0 (entryLine Palette (run readTex b)) (λ n. rw (is, zero-add)) in
+      let textures = lines-listed Texture (λ t. textureRecord (t .name) (t .word)) noTexture textureLine (c .textures) 0
+      (entryLine Texture (run readTex b)) (λ n. rw (is, zero-add)) in
+      let palettes = lines-listed Palette (λ p. paletteRecord (p .name) (p .off)) noPalette paletteLine (c .palettes) 0
+      (entryLine Palette (run readTex b)) (λ n. rw (is, zero-add)) in
       rw (textures, palettes, length-map, length-map)

@@ -1,6 +1,6 @@
 -- The laws of the listing's text, by what the reading comes to. Assumes nothing.
 use Prim.Native.Nat.{ℕ}
-use mathlib.Core.Path.{_≡_, refl, sym, ap, _∙_}
+use mathlib.Core.Path.{_≡_, refl, sym, ap}
 use mathlib.Core.Bool.{true, false}
 use mathlib.Core.List.{List, _++_}
 use native.Mathlib.Omega.{arith}
@@ -14,7 +14,6 @@ use Rattle.errors.proofs.Refusals.{refusal-not}
 use Rattle.nitro.specs.Script.{Answer, short, fault, whole, run, outcomeOf}
 use Rattle.nitro.specs.Tex.{Contents, readTex}
 use Rattle.nitro.specs.Calls.{Counts, countsOf, readingOf}
-use Rattle.nitro.proofs.Runs.{whole-outcome}
 use Rattle.listing.specs.Listing.{refusedLine, printed, listsOf, listingOutcome, listingText}
 use Rattle.listing.specs.Lines.{listOf}
 use Rattle.listing.proofs.Lines.{lists-whole}

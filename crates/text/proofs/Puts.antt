@@ -1,6 +1,6 @@
 -- The laws of texts that are put into an output one behind the other. Assumes nothing.
-use Prim.Native.Nat.{ℕ, suc, _+_, _-_, _≤_, _<_}
-use mathlib.Core.Path.{_≡_, refl, ap, _∙_}
+use Prim.Native.Nat.{ℕ, suc, _+_, _-_, _<_}
+use mathlib.Core.Path.{_≡_, refl, _∙_}
 use mathlib.Core.List.{List, [], _∷_, _++_, append-nil, append-assoc}
 use native.Mathlib.Nat.{add-zero, zero-add, add-suc, suc-add}
 use native.Mathlib.Numerals.{add-one}
@@ -28,6 +28,9 @@ put-byte text entry at i e h =
     let n : length (take i text) ≡ i = length-take-le i text (omega arith) in
     rw (e, add-one, take-suc text i 0 h, sets-append, n)
 
+pub room-first : (text more : List ℕ) {entry : List ℕ} {at : ℕ} → Room (text ++ more) entry at → Room text entry at
+room-first text more r = record { fits = omega (arith, r .fits, length-append text more) }
+
 module _ {text entry exit : List ℕ} {at end : ℕ} (p : Put text entry at exit end) where
   pub put-length : length exit ≡ length entry
   put-length = rw (p .output) (length-sets entry at text)
@@ -42,8 +45,8 @@ module _ {text entry exit : List ℕ} {at end : ℕ} (p : Put text entry at exit
   pub room-then : {more : List ℕ} → Room (text ++ more) entry at → Room more exit end
   room-then {more} r = record { fits = omega (arith, r .fits, p .behind, put-length, length-append text more) }
 
-pub room-first : (text more : List ℕ) {entry : List ℕ} {at : ℕ} → Room (text ++ more) entry at → Room text entry at
-room-first text more r = record { fits = omega (arith, r .fits, length-append text more) }
+  pub room-next : (next more : List ℕ) → Room (text ++ (next ++ more)) entry at → Room next exit end
+  room-next next more r = room-first next more (room-then r)
 
 -- a number that has another name
 module _ {n m : ℕ} (same : n ≡ m) (end : List ℕ) {entry : List ℕ} {at : ℕ} where

@@ -1,21 +1,18 @@
 -- `listing::list` meets its contract: every listing fits `MAX_LISTING` bytes, so it is put into the output, or into a buffer and from there
 -- into the output if it fits. Assumes nothing.
 use Prim.Native.Nat.{_≤_}
-use mathlib.Core.Path.{_≡_, sym, ap, _∙_}
+use mathlib.Core.Path.{_≡_}
 use native.Mathlib.Omega.{arith}
 use lib.ListN.{length, take}
-use lib.Seq.{length-take-le}
 use denote.Ref.{now}
 use borrow.Author.Needs.{needs}
 use Rattle.errors.proofs.Outputs.{writes-short}
 use Rattle.listing.specs.Listing.{listingText}
 use Rattle.text.specs.Put.{Room}
 use Rattle.listing.proofs.Bounds.{listing-fits}
-use Rattle.text.proofs.Puts.{put-length, put-writes, put-text}
+use Rattle.text.proofs.Puts.{put-writes, put-text}
 use Rattle.listing.proofs.list.Statement.{statement}
 use Rattle.listing.proofs.list.Tie as tie
-use Rattle.listing.proofs.list.Reads as reads
-use Rattle.listing.proofs.list.Lts as lts
 
 fits : (c : tie.After-shared-slice-known) → length (listingText (now (c .before .args .input))) ≤ 22211
 fits c = listing-fits _ (λ k. omega (arith, c .shared-slice-known .given k))

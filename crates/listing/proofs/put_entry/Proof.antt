@@ -10,7 +10,9 @@ texture-requires : tie.Need-texture-requires
 texture-requires c κs = search needs
 
 put-texture-requires : tie.Need-put-texture-requires
-put-texture-requires c κs = rw (c .before .texture .ensures .value) (rw (c .before .before .enum-told .given .1) at (c .before .before .before .before .before .before .pre))
+put-texture-requires c κs =
+    let told = c .before .before in
+    rw (c .before .texture .ensures .value) (rw (told .enum-told .given .1) at (told .before .before .before .before .pre))
 
 enum-told-2 : tie.Need-enum-told-2
 enum-told-2 c = search needs
@@ -19,7 +21,9 @@ palette-requires : tie.Need-palette-requires
 palette-requires c κs = search needs
 
 put-palette-requires : tie.Need-put-palette-requires
-put-palette-requires c κs = rw (c .before .palette .ensures .value) (rw (c .before .before .enum-told2 .given .1) at (c .before .before .before .before .before .before .pre))
+put-palette-requires c κs =
+    let told = c .before .before in
+    rw (c .before .palette .ensures .value) (rw (told .enum-told2 .given .1) at (told .before .before .before .before .pre))
 
 same-length : tie.Need-same-length
 same-length c = search needs

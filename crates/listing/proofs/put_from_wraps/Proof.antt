@@ -2,7 +2,7 @@
 use borrow.Author.Needs.{needs}
 use Rattle.text.specs.Text.{ascii, line}
 use Rattle.listing.specs.Lines.{restFrom}
-use Rattle.text.proofs.Puts.{put-then, room-first, room-then}
+use Rattle.text.proofs.Puts.{put-then, room-first, room-then, room-next}
 use Rattle.listing.proofs.put_from_wraps.Statement.{statement}
 use Rattle.listing.proofs.put_from_wraps.Tie as tie
 
@@ -18,7 +18,9 @@ slice-aggregate-put-wrap-2 c = search needs
 
 put-wrap-requires-2 : tie.Need-put-wrap-requires-2
 unfolding ascii line restFrom
-put-wrap-requires-2 c κs = room-first _ _ (room-then (c .before .before .before .before .put-wrap .ensures) (c .before .before .before .before .before .before .before .before .pre))
+put-wrap-requires-2 c κs =
+    let first = c .before .before .before .before in
+    room-next (first .put-wrap .ensures) _ _ (first .before .before .before .before .pre)
 
 slice-aggregate-put-alpha : tie.Need-slice-aggregate-put-alpha
 slice-aggregate-put-alpha c = search needs
@@ -26,8 +28,9 @@ slice-aggregate-put-alpha c = search needs
 put-alpha-requires : tie.Need-put-alpha-requires
 unfolding ascii line restFrom
 put-alpha-requires c κs =
-    let first = c .before .before .before .before .before .before .before .before .before in
-    room-then (c .before .before .before .before .put-wrap2 .ensures) (room-then (first .put-wrap .ensures) (first .before .before .before .before .pre))
+    let second = c .before .before .before .before in
+    let first = second .before .before .before .before .before in
+    room-then (second .put-wrap2 .ensures) (room-then (first .put-wrap .ensures) (first .before .before .before .before .pre))
 
 same-length : tie.Need-same-length
 same-length c = search needs

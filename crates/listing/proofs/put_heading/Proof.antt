@@ -14,14 +14,17 @@ slice-aggregate-put-number c = search needs
 
 put-number-requires : tie.Need-put-number-requires
 unfolding ascii line
-put-number-requires c κs = room-then (c .before .before .before .before .put-list-word .ensures) (c .before .before .before .before .before .before .before .pre)
+put-number-requires c κs =
+    let first = c .before .before .before .before in
+    room-then (first .put-list-word .ensures) (first .before .before .before .pre)
 
 same-length : tie.Need-same-length
 same-length c = search needs
 
 returns : tie.Need-returns
 unfolding ascii line
-returns c = put-then (c .before .before .before .before .before .before .before .put-list-word .ensures) (c .before .before .put-number .ensures)
+returns c =
+    put-then (c .before .before .before .before .before .before .before .put-list-word .ensures) (c .before .before .put-number .ensures)
 
 pub put-heading-spec : {M : Type 1} → statement M
 put-heading-spec =

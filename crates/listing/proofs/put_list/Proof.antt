@@ -1,20 +1,16 @@
 -- `listing::put_list` meets its contract: behind the heading the loop puts line after line. Assumes nothing.
-use Prim.Native.Nat.{_+_, _-_, _≤_}
+use Prim.Native.Nat.{_-_, _≤_}
 use mathlib.Core.Path.{_≡_}
-use mathlib.Core.List.{_++_}
 use native.Mathlib.Omega.{arith}
 use denote.Ref.{now}
 use Rattle.nitro.specs.Script.{run}
 use Rattle.nitro.specs.Tex.{readTex}
-use Rattle.text.specs.Text.{line, decimal}
 use Rattle.text.specs.Put.{Room, Put}
-use Rattle.listing.specs.Lines.{entryLine, lines, listWord, listOf}
+use Rattle.listing.specs.Lines.{entryLine, lines, listOf}
 use Rattle.text.proofs.Puts.{put-none, put-then, put-length, room-first, room-then}
 use Rattle.listing.proofs.Lines.{room-line, put-line}
 use Rattle.listing.proofs.put_list.Statement.{statement}
 use Rattle.listing.proofs.put_list.Tie as tie
-use Rattle.listing.proofs.put_list.Reads as reads
-use Rattle.listing.proofs.put_list.Lts as lts
 
 -- n lines are there, behind where the loop began
 abbrev Inv-loop : tie.InvT-loop
@@ -26,14 +22,16 @@ abbrev μ-loop : tie.MeasureT-loop
 -- the lines have room behind the heading
 behind : (c : tie.At-loop Inv-loop μ-loop)
     → let s = c .before .before .before .before .before .before .before in
-    Room (lines (entryLine (s .args .kind) (run readTex (now (s .args .block)))) (s .args .count)) (c .before .before .before .put-heading .last .0) (c .before .before .before .put-heading .result)
+    let head = c .before .before .before .put-heading in
+    Room (lines (entryLine (s .args .kind) (run readTex (now (s .args .block)))) (s .args .count)) (head .last .0) (head .result)
 unfolding listOf
 behind c = room-then (c .before .before .before .put-heading .ensures) (c .before .before .before .before .before .before .before .pre)
 
 -- and after the loop all of them are there
 whole : (c : tie.After-loop Inv-loop μ-loop)
     → let s = c .before .before .before .before .before .before .before .before in
-    Put (listOf (s .args .kind) (run readTex (now (s .args .block))) (s .args .count)) (now (s .args .out)) (s .args .at) (c .before .loop .out) (c .before .loop .at)
+    let text = listOf (s .args .kind) (run readTex (now (s .args .block))) (s .args .count) in
+    Put text (now (s .args .out)) (s .args .at) (c .before .loop .out) (c .before .loop .at)
 unfolding listOf
 whole c =
     let e : c .before .loop .n ≡ c .before .before .before .before .before .before .before .before .args .count = omega arith in

@@ -1,6 +1,6 @@
 -- `listing::put_listing` meets its contract: the input is too long, or is listed, or is refused. Assumes nothing.
-use mathlib.Core.Path.{_≡_, _∙_, sym, ap}
-use mathlib.Core.Bool.{true, false}
+use mathlib.Core.Path.{_≡_, _∙_, sym}
+use mathlib.Core.Bool.{false}
 use mathlib.Core.List.{_++_}
 use lib.ListN.{length}
 use lib.Dec.{ltb}
@@ -16,8 +16,6 @@ use Rattle.text.proofs.Puts.{put-then, room-first, room-then}
 use Rattle.listing.proofs.Listings.{too-long, listing-lists, listing-refused}
 use Rattle.listing.proofs.put_listing.Statement.{statement}
 use Rattle.listing.proofs.put_listing.Tie as tie
-use Rattle.listing.proofs.put_listing.Reads as reads
-use Rattle.listing.proofs.put_listing.Lts as lts
 
 -- the text, in each of the three cases
 long : (c : tie.Then1) → listingText (now (c .before .before .before .before .args .input)) ≡ refusedLine 13 0
@@ -55,7 +53,9 @@ enum-known-textures : tie.Need-enum-known-textures
 enum-known-textures c = search needs
 
 put-list-requires : tie.Need-put-list-requires
-put-list-requires c κs = room-first _ _ (rw (lists (c .before .before)) at (c .before .before .before .before .before .before .before .before .before .pre))
+put-list-requires c κs =
+    let told = c .before .before in
+    room-first _ _ (rw (lists told) at (told .before .before .before .before .before .before .before .pre))
 
 put-list-requires-2 : tie.Need-put-list-requires-2
 put-list-requires-2 c κs =

@@ -1,5 +1,5 @@
 -- `listing::put_name` meets its contract: the text has room from the place on, so the name's own call writes it. Assumes nothing.
-use mathlib.Core.Path.{_≡_, refl}
+use mathlib.Core.Path.{_≡_}
 use native.Mathlib.Omega.{arith}
 use lib.ListN.{length}
 use denote.Ref.{now}
@@ -13,8 +13,6 @@ use Rattle.name.specs.Name.{safeText}
 use Rattle.text.proofs.Puts.{PartWrote, part-wrote, put-then, room-first, room-then}
 use Rattle.listing.proofs.put_name.Statement.{statement}
 use Rattle.listing.proofs.put_name.Tie as tie
-use Rattle.listing.proofs.put_name.Reads as reads
-use Rattle.listing.proofs.put_name.Lts as lts
 
 wrote : (c : tie.After-print-safe)
     → let s = c .before .before .before .before in
@@ -25,7 +23,9 @@ wrote c = part-wrote _ _ _ (room-first _ _ (c .before .before .before .before .p
 first : (c : tie.After-len)
     → let p = c .before .before .before .before in
     let s = p .before .before .before .before in
-    Put (safeText (s .args .name .0)) (now (s .args .out)) (s .args .at) (putMid (s .args .at) (length (now (s .args .out)) - s .args .at) (now (s .args .out)) (p .print-safe .last .1 .0)) (s .args .at + c .len .given .0 .0)
+    let entry = now (s .args .out) in
+    let at = s .args .at in
+    Put (safeText (s .args .name .0)) entry at (putMid at (length entry - at) entry (p .print-safe .last .1 .0)) (at + c .len .given .0 .0)
 first c =
     let w = wrote (c .before .before .before .before) in
     let name = c .before .before .before .before .before .before .before .before .args .name .0 in

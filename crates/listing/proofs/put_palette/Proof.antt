@@ -2,7 +2,7 @@
 use borrow.Author.Needs.{needs}
 use Rattle.text.specs.Text.{ascii, line}
 use Rattle.listing.specs.Listing.{paletteLine}
-use Rattle.text.proofs.Puts.{put-then, room-first, room-then}
+use Rattle.text.proofs.Puts.{put-then, room-first, room-then, room-next}
 use Rattle.listing.proofs.put_palette.Statement.{statement}
 use Rattle.listing.proofs.put_palette.Tie as tie
 
@@ -18,7 +18,9 @@ slice-aggregate-put-name c = search needs
 
 put-name-requires : tie.Need-put-name-requires
 unfolding ascii line paletteLine
-put-name-requires c κs = room-first _ _ (room-then (c .before .before .before .before .put-number .ensures) (c .before .before .before .before .before .before .before .before .pre))
+put-name-requires c κs =
+    let first = c .before .before .before .before in
+    room-next (first .put-number .ensures) _ _ (first .before .before .before .before .pre)
 
 cast-put-number : tie.Need-cast-put-number
 cast-put-number c = search needs
@@ -29,8 +31,9 @@ slice-aggregate-put-number-2 c = search needs
 put-number-requires-2 : tie.Need-put-number-requires-2
 unfolding ascii line paletteLine
 put-number-requires-2 c κs =
-    let first = c .before .before .before .before .before .before in
-    room-then (c .before .before .before .before .before .put-name .ensures) (room-then (first .before .before .before .before .put-number .ensures) (first .before .before .before .before .before .before .before .before .pre))
+    let second = c .before .before .before .before .before in
+    let first = second .before .before .before .before .before in
+    room-then (second .put-name .ensures) (room-then (first .put-number .ensures) (first .before .before .before .before .pre))
 
 same-length : tie.Need-same-length
 same-length c = search needs
@@ -38,9 +41,9 @@ same-length c = search needs
 returns : tie.Need-returns
 unfolding ascii line paletteLine
 returns c =
-    let second = c .before .before .before .before in
+    let second = c .before .before .before .before .before .before .before .before in
     let first = second .before .before .before .before .before in
-    put-then (first .before .before .before .before .put-number .ensures) (put-then (second .before .before .before .before .put-name .ensures) (c .before .before .put-number2 .ensures))
+    put-then (first .put-number .ensures) (put-then (second .put-name .ensures) (c .before .before .put-number2 .ensures))
 
 pub put-palette-spec : {M : Type 1} → statement M
 put-palette-spec =

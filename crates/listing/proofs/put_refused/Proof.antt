@@ -2,7 +2,7 @@
 use borrow.Author.Needs.{needs}
 use Rattle.text.specs.Text.{ascii, line}
 use Rattle.listing.specs.Listing.{refusedLine}
-use Rattle.text.proofs.Puts.{put-then, room-first, room-then}
+use Rattle.text.proofs.Puts.{put-then, room-first, room-then, room-next}
 use Rattle.listing.proofs.put_refused.Statement.{statement}
 use Rattle.listing.proofs.put_refused.Tie as tie
 
@@ -21,7 +21,9 @@ slice-aggregate-put-number c = search needs
 
 put-number-requires : tie.Need-put-number-requires
 unfolding ascii line refusedLine
-put-number-requires c κs = room-first _ _ (room-then (c .before .before .before .before .put-field .ensures) (c .before .before .before .before .before .before .before .before .before .pre))
+put-number-requires c κs =
+    let first = c .before .before .before .before in
+    room-next (first .put-field .ensures) _ _ (first .before .before .before .before .before .pre)
 
 slice-aggregate-put-number-2 : tie.Need-slice-aggregate-put-number-2
 slice-aggregate-put-number-2 c = search needs
@@ -29,8 +31,9 @@ slice-aggregate-put-number-2 c = search needs
 put-number-requires-2 : tie.Need-put-number-requires-2
 unfolding ascii line refusedLine
 put-number-requires-2 c κs =
-    let first = c .before .before .before .before .before in
-    room-then (c .before .before .before .before .put-number .ensures) (room-then (first .before .before .before .before .put-field .ensures) (first .before .before .before .before .before .before .before .before .before .pre))
+    let second = c .before .before .before .before in
+    let first = second .before .before .before .before .before in
+    room-then (second .put-number .ensures) (room-then (first .put-field .ensures) (first .before .before .before .before .before .pre))
 
 same-length : tie.Need-same-length
 same-length c = search needs
@@ -38,9 +41,9 @@ same-length c = search needs
 returns : tie.Need-returns
 unfolding ascii line refusedLine
 returns c =
-    let second = c .before .before .before in
+    let second = c .before .before .before .before .before .before .before in
     let first = second .before .before .before .before .before in
-    put-then (first .before .before .before .before .put-field .ensures) (put-then (second .before .before .before .before .put-number .ensures) (c .before .before .put-number2 .ensures))
+    put-then (first .put-field .ensures) (put-then (second .put-number .ensures) (c .before .before .put-number2 .ensures))
 
 pub put-refused-spec : {M : Type 1} → statement M
 put-refused-spec =

@@ -3,7 +3,7 @@ use borrow.Author.Needs.{needs}
 use Rattle.text.specs.Text.{ascii, line}
 use Rattle.listing.specs.Listing.{textureLine}
 use Rattle.listing.specs.Lines.{restFrom}
-use Rattle.text.proofs.Puts.{put-then, room-first, room-then}
+use Rattle.text.proofs.Puts.{put-then, room-first, room-then, room-next}
 use Rattle.listing.proofs.put_texture.Statement.{statement}
 use Rattle.listing.proofs.put_texture.Tie as tie
 
@@ -19,13 +19,16 @@ slice-aggregate-put-name c = search needs
 
 put-name-requires : tie.Need-put-name-requires
 unfolding ascii line restFrom textureLine
-put-name-requires c κs = room-first _ _ (room-then (c .before .before .before .before .put-number .ensures) (c .before .before .before .before .before .before .before .before .pre))
+put-name-requires c κs =
+    let first = c .before .before .before .before in
+    room-next (first .put-number .ensures) _ _ (first .before .before .before .before .pre)
 
 put-from-format-requires : tie.Need-put-from-format-requires
 unfolding ascii line restFrom textureLine
 put-from-format-requires c κs =
-    let first = c .before .before .before .before .before .before .before .before in
-    room-then (c .before .before .before .put-name .ensures) (room-then (first .put-number .ensures) (first .before .before .before .before .pre))
+    let second = c .before .before .before in
+    let first = second .before .before .before .before .before in
+    room-then (second .put-name .ensures) (room-then (first .put-number .ensures) (first .before .before .before .before .pre))
 
 same-length : tie.Need-same-length
 same-length c = search needs

@@ -4,7 +4,6 @@ use mathlib.Core.Path.{_≡_, refl, _∙_, ap}
 use native.Mathlib.Omega.{arith}
 use lib.ListN.{length, take}
 use lib.Seq.{sets, length-sets, take-length}
-use borrow.Author.Needs.{needs}
 use Rattle.text.proofs.Puts.{put-byte}
 use Rattle.text.proofs.put.Statement.{statement}
 use Rattle.text.proofs.put.Tie as tie
