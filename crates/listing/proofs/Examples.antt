@@ -11,7 +11,8 @@ use Rattle.nitro.specs.InfoBlock.{wholeList, nameList}
 use Rattle.nitro.specs.Tex.{headerOf, dataAt, readHeader, readPalBlock, readSecond, readData, readTexture, readTextures, readPalettes, readTex}
 use Rattle.nitro.proofs.Sample.{leaf, sample}
 use Rattle.text.specs.Text.{ascii, decimalBelow, decimal, line}
-use Rattle.listing.specs.Listing.{wrapWord, alphaWord, textureLine, paletteLine, linesFrom, headed, listsOf}
+use Rattle.lines.specs.Lines.{wrapWord, alphaWord, textureLine, paletteLine}
+use Rattle.listing.specs.Listing.{linesFrom, headed, listsOf}
 use Rattle.listing.specs.Listing.{refusedLine, listingOutcome, listingText}
 
 pub record Examples : Type 0 where

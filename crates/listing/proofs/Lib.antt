@@ -1,4 +1,4 @@
 pub mod Bounds
 pub mod Examples
-pub mod Lines
 pub mod Listings
+pub mod Lists

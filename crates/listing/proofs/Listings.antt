@@ -15,8 +15,8 @@ use Rattle.nitro.specs.Script.{Answer, short, fault, whole, run, outcomeOf}
 use Rattle.nitro.specs.Tex.{Contents, readTex}
 use Rattle.nitro.specs.Calls.{Counts, countsOf, readingOf}
 use Rattle.listing.specs.Listing.{refusedLine, printed, listsOf, listingOutcome, listingText}
-use Rattle.listing.specs.Lines.{listOf}
-use Rattle.listing.proofs.Lines.{lists-whole}
+use Rattle.listing.specs.Lists.{listOf}
+use Rattle.listing.proofs.Lists.{lists-whole}
 
 -- an input that is too long is not read
 pub too-long : (b : List ℕ) → ltb 65536 (length b) ≡ true → listingText b ≡ refusedLine 13 0

@@ -2,13 +2,10 @@
 use errors::Counted;
 use errors::Kind;
 use errors::Refusal;
-use name::Name;
-use nds::texture_formats::Alpha;
-use nds::wrap::Wrap;
+use lines::put_palette;
+use lines::put_texture;
 use nitro::tex;
-use nitro::tex::PaletteRecord;
 use nitro::tex::Reading;
-use nitro::tex::TextureRecord;
 use text::put;
 use text::put_field;
 use text::put_number;
@@ -22,101 +19,16 @@ ghost use Rattle.errors.specs.Output.{Writes};
 ghost use Rattle.errors.specs.Refusal.{countedOutcome};
 ghost use Rattle.nitro.specs.Script.{run};
 ghost use Rattle.nitro.specs.Tex.{readTex};
-ghost use Rattle.name.specs.Name.{safeText};
 ghost use Rattle.text.specs.Text.{ascii, decimal, line};
 ghost use Rattle.text.specs.Put.{Room, Put};
 ghost use Rattle.listing.specs.Listing as Listing;
-ghost use Rattle.listing.specs.Lines.{restFrom, listWord, entryLine, listOf};
+ghost use Rattle.listing.specs.Lists.{listWord, entryLine, listOf};
 
 // The longest input that is read, in bytes.
 pub const MAX_INPUT: usize = 65536;
 
 // No listing is longer than this, in bytes: 255 textures and 255 palettes, with names of 16 bytes and the longest numbers and words.
 pub const MAX_LISTING: usize = 22211;
-
-// A name in letters, digits and underscores.
-fn put_name(out: &mut [u8], at: usize, name: Name, end: &[u8]) -> usize
-    requires { ⌜ Room (safeText (name .0) ++ now end) (now out) at ⌝ }
-    ensures { λ r. ⌜ Put (safeText (name .0) ++ now (end .entry)) (now (out .entry)) at (now (out .exit)) r ⌝ }
-{
-    match name.print_safe(&mut out[at..]) {
-        Counted::Count(len) => put(out, at + len, end),
-        // The text has room behind `at`.
-        Counted::Refused(_) => at,
-    }
-}
-
-// A wrap word, and the space or line end behind it.
-fn put_wrap(out: &mut [u8], at: usize, wrap: Wrap, end: &[u8]) -> usize
-    requires { ⌜ Room (Listing.wrapWord wrap ++ now end) (now out) at ⌝ }
-    ensures { λ r. ⌜ Put (Listing.wrapWord wrap ++ now (end .entry)) (now (out .entry)) at (now (out .exit)) r ⌝ }
-{
-    match wrap {
-        Wrap::Clamp => put_field(out, at, b"clamp", end),
-        Wrap::Repeat => put_field(out, at, b"repeat", end),
-        Wrap::Mirror => put_field(out, at, b"mirror", end),
-    }
-}
-
-// An alpha kind, and the space or line end behind it.
-fn put_alpha(out: &mut [u8], at: usize, alpha: Alpha, end: &[u8]) -> usize
-    requires { ⌜ Room (Listing.alphaWord alpha ++ now end) (now out) at ⌝ }
-    ensures { λ r. ⌜ Put (Listing.alphaWord alpha ++ now (end .entry)) (now (out .entry)) at (now (out .exit)) r ⌝ }
-{
-    match alpha {
-        Alpha::Opaque => put_field(out, at, b"opaque", end),
-        Alpha::Transparent => put_field(out, at, b"transparent", end),
-        Alpha::Translucent => put_field(out, at, b"translucent", end),
-    }
-}
-
-// The rest of a texture's line, from its wrap words on.
-fn put_from_wraps(out: &mut [u8], at: usize, texture: TextureRecord) -> usize
-    requires { ⌜ Room (restFrom 5 texture) (now out) at ⌝ }
-    ensures { λ r. ⌜ Put (restFrom 5 texture) (now (out .entry)) at (now (out .exit)) r ⌝ }
-{
-    let wrap_s = texture.wrap_s;
-    let wrap_t = texture.wrap_t;
-    let alpha = texture.alpha;
-    let at = put_wrap(out, at, wrap_s, b" ");
-    let at = put_wrap(out, at, wrap_t, b" ");
-    put_alpha(out, at, alpha, b"\n")
-}
-
-// The rest of a texture's line, from its format on.
-fn put_from_format(out: &mut [u8], at: usize, texture: TextureRecord) -> usize
-    requires { ⌜ Room (restFrom 2 texture) (now out) at ⌝ }
-    ensures { λ r. ⌜ Put (restFrom 2 texture) (now (out .entry)) at (now (out .exit)) r ⌝ }
-{
-    let params = texture.params;
-    let format = params.format();
-    let width = params.width();
-    let height = params.height();
-    let at = put_number(out, at, format.0 as usize, b" ");
-    let at = put_number(out, at, width as usize, b" ");
-    let at = put_number(out, at, height as usize, b" ");
-    put_from_wraps(out, at, texture)
-}
-
-// The line of texture n.
-fn put_texture(out: &mut [u8], at: usize, n: usize, texture: TextureRecord) -> usize
-    requires { ⌜ Room (Listing.textureLine n texture) (now out) at ⌝ }
-    ensures { λ r. ⌜ Put (Listing.textureLine n texture) (now (out .entry)) at (now (out .exit)) r ⌝ }
-{
-    let at = put_number(out, at, n, b" ");
-    let at = put_name(out, at, texture.name, b" ");
-    put_from_format(out, at, texture)
-}
-
-// The line of palette n.
-fn put_palette(out: &mut [u8], at: usize, n: usize, palette: PaletteRecord) -> usize
-    requires { ⌜ Room (Listing.paletteLine n palette) (now out) at ⌝ }
-    ensures { λ r. ⌜ Put (Listing.paletteLine n palette) (now (out .entry)) at (now (out .exit)) r ⌝ }
-{
-    let at = put_number(out, at, n, b" ");
-    let at = put_name(out, at, palette.name, b" ");
-    put_number(out, at, palette.off as usize, b"\n")
-}
 
 // The line of the block's texture or palette n.
 fn put_entry(out: &mut [u8], at: usize, block: &[u8], kind: Kind, n: usize) -> usize
@@ -210,7 +122,8 @@ fn buffer() -> [u8; MAX_LISTING]
     [0; MAX_LISTING]
 }
 
-// Writes the listing of a block to the output, and answers with its length.
+// Writes the listing of a block to the output, and answers with its length. A block that is refused is listed as one line. Where the listing
+// is longer than the output it is not written.
 pub fn list(input: &[u8], out: &mut [u8]) -> Counted
     ensures { λ r. ⌜ Writes (result (Listing.listingText (now (input .entry)))) (now (out .entry)) (countedOutcome r) (now (out .exit)) ⌝ }
 {
@@ -225,7 +138,7 @@ pub fn list(input: &[u8], out: &mut [u8]) -> Counted
     Counted::Count(put(out, 0, &text[..len]))
 }
 
-// The same to an output that has room for any listing, so that it is never refused.
+// The same, to an output that has room for every listing: the answer is never a refusal.
 pub fn list_whole(input: &[u8], out: &mut [u8; MAX_LISTING]) -> usize
     ensures { λ r. ⌜ Writes (result (Listing.listingText (now (input .entry)))) (now (out .entry)) (result r) (now (out .exit)) ⌝ }
     ensures { λ r. ⌜ Counts r (now (out .exit)) ⌝ }

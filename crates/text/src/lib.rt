@@ -1,4 +1,4 @@
-// Texts that are put at a place of the output. Each function returns the place behind what it put.
+// Texts that are put at a place of an output. Each function returns the place behind what it put. The caller shows that there is room.
 ghost use mathlib.Core.List.{_++_};
 ghost use Rattle.text.specs.Text.{decimal};
 ghost use Rattle.text.specs.Put.{Room, Put};
@@ -24,7 +24,7 @@ pub fn put_field(out: &mut [u8], at: usize, text: &[u8], end: &[u8]) -> usize
     put(out, at, end)
 }
 
-// A number in decimal.
+// A number in decimal, and the space or line end behind it.
 pub fn put_number(out: &mut [u8], at: usize, n: usize, end: &[u8]) -> usize
     requires { ⌜ Room (decimal n ++ now end) (now out) at ⌝ }
     ensures { λ r. ⌜ Put (decimal n ++ now (end .entry)) (now (out .entry)) at (now (out .exit)) r ⌝ }

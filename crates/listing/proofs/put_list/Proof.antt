@@ -6,9 +6,9 @@ use denote.Ref.{now}
 use Rattle.nitro.specs.Script.{run}
 use Rattle.nitro.specs.Tex.{readTex}
 use Rattle.text.specs.Put.{Room, Put}
-use Rattle.listing.specs.Lines.{entryLine, lines, listOf}
+use Rattle.listing.specs.Lists.{entryLine, lines, listOf}
 use Rattle.text.proofs.Puts.{put-none, put-then, put-length, room-first, room-then}
-use Rattle.listing.proofs.Lines.{room-line, put-line}
+use Rattle.listing.proofs.Lists.{room-line, put-line}
 use Rattle.listing.proofs.put_list.Statement.{statement}
 use Rattle.listing.proofs.put_list.Tie as tie
 

@@ -11,7 +11,7 @@ use Rattle.errors.specs.declared.Kind.the-variants.{Texture, Palette}
 use Rattle.nitro.specs.Script.{run}
 use Rattle.nitro.specs.Tex.{readTex}
 use Rattle.listing.specs.Listing.{listingText, refusedLine}
-use Rattle.listing.specs.Lines.{listOf}
+use Rattle.listing.specs.Lists.{listOf}
 use Rattle.text.proofs.Puts.{put-then, room-first, room-then}
 use Rattle.listing.proofs.Listings.{too-long, listing-lists, listing-refused}
 use Rattle.listing.proofs.put_listing.Statement.{statement}

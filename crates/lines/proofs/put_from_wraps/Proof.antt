@@ -1,10 +1,10 @@
--- `listing::put_from_wraps` meets its contract: the line's fields are put one behind the other. Assumes nothing.
+-- `lines::put_from_wraps` meets its contract: the line's fields are put one behind the other. Assumes nothing.
 use borrow.Author.Needs.{needs}
 use Rattle.text.specs.Text.{ascii, line}
-use Rattle.listing.specs.Lines.{restFrom}
+use Rattle.lines.specs.Rest.{restFrom}
 use Rattle.text.proofs.Puts.{put-then, room-first, room-then, room-next}
-use Rattle.listing.proofs.put_from_wraps.Statement.{statement}
-use Rattle.listing.proofs.put_from_wraps.Tie as tie
+use Rattle.lines.proofs.put_from_wraps.Statement.{statement}
+use Rattle.lines.proofs.put_from_wraps.Tie as tie
 
 slice-aggregate-put-wrap : tie.Need-slice-aggregate-put-wrap
 slice-aggregate-put-wrap c = search needs

@@ -1,11 +1,11 @@
--- `listing::put_texture` meets its contract: the line's fields are put one behind the other. Assumes nothing.
+-- `lines::put_texture` meets its contract: the line's fields are put one behind the other. Assumes nothing.
 use borrow.Author.Needs.{needs}
 use Rattle.text.specs.Text.{ascii, line}
-use Rattle.listing.specs.Listing.{textureLine}
-use Rattle.listing.specs.Lines.{restFrom}
+use Rattle.lines.specs.Lines.{textureLine}
+use Rattle.lines.specs.Rest.{restFrom}
 use Rattle.text.proofs.Puts.{put-then, room-first, room-then, room-next}
-use Rattle.listing.proofs.put_texture.Statement.{statement}
-use Rattle.listing.proofs.put_texture.Tie as tie
+use Rattle.lines.proofs.put_texture.Statement.{statement}
+use Rattle.lines.proofs.put_texture.Tie as tie
 
 slice-aggregate-put-number : tie.Need-slice-aggregate-put-number
 slice-aggregate-put-number c = search needs

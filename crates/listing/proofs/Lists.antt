@@ -14,9 +14,10 @@ use Rattle.nitro.specs.Tex.{Contents, readTex}
 use Rattle.nitro.specs.Calls.{entry, textureEntry, paletteEntry, textureRecord, paletteRecord, textureOf, paletteOf, noTexture, noPalette, valueOr}
 use Rattle.errors.specs.declared.Kind.{Kind}
 use Rattle.errors.specs.declared.Kind.the-variants.{Texture, Palette}
-use Rattle.listing.specs.Listing.{textureLine, paletteLine, linesFrom, headed, listsOf}
+use Rattle.lines.specs.Lines.{textureLine, paletteLine}
+use Rattle.listing.specs.Listing.{linesFrom, headed, listsOf}
 use Rattle.text.specs.Put.{Room, Put}
-use Rattle.listing.specs.Lines.{entryLine, lines, listOf}
+use Rattle.listing.specs.Lists.{entryLine, lines, listOf}
 use Rattle.text.proofs.Puts.{put-length, put-then}
 
 -- the first n lines are a part of all

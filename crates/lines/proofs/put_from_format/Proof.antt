@@ -1,4 +1,4 @@
--- `listing::put_from_format` meets its contract: the line's fields are put one behind the other. Assumes nothing.
+-- `lines::put_from_format` meets its contract: the line's fields are put one behind the other. Assumes nothing.
 use mathlib.Core.List.{_++_}
 use denote.Ref.{now}
 use borrow.Author.Needs.{needs}
@@ -7,9 +7,9 @@ use Rattle.text.specs.Text.{ascii, decimal, line}
 use Rattle.text.specs.Put.{Room, Put}
 use Rattle.text.proofs.Puts.{put-then, put-number, room-first, room-then, room-number}
 use Rattle.nitro.specs.declared.tex.TextureRecord.{TextureRecord}
-use Rattle.listing.specs.Lines.{restFrom}
-use Rattle.listing.proofs.put_from_format.Statement.{statement}
-use Rattle.listing.proofs.put_from_format.Tie as tie
+use Rattle.lines.specs.Rest.{restFrom}
+use Rattle.lines.proofs.put_from_format.Statement.{statement}
+use Rattle.lines.proofs.put_from_format.Tie as tie
 
 -- the places before the first number, behind it and behind the second
 abbrev start : tie.After-put-number → tie.Start

@@ -1,19 +1,13 @@
--- The parts of a listing that private functions put into the output; no public contract cites them. Assumes nothing.
+-- What the private functions put of a listing; no public contract cites it. Assumes nothing.
 use Prim.Native.Nat.{ℕ, zero, suc}
 use mathlib.Core.List.{List, [], _∷_, _++_}
-use lib.ListN.{drop}
 use Rattle.nitro.specs.Script.{Answer}
 use Rattle.nitro.specs.Tex.{Contents}
 use Rattle.nitro.specs.Calls.{textureOf, paletteOf, noTexture, noPalette, valueOr}
 use Rattle.errors.specs.declared.Kind.{Kind}
 use Rattle.errors.specs.declared.Kind.the-variants.{Texture, Palette}
-use Rattle.nitro.specs.declared.tex.TextureRecord.{TextureRecord}
 use Rattle.text.specs.Text.{ascii, decimal, line}
-use Rattle.listing.specs.Listing.{textureFields, textureLine, paletteLine}
-
--- The rest of a texture's line from field k on, counted from 0. The number is the first field.
-unfoldable pub restFrom : (k : ℕ) → TextureRecord → List ℕ
-restFrom k t = line (drop k (textureFields 0 t))
+use Rattle.lines.specs.Lines.{textureLine, paletteLine}
 
 -- The word of a list.
 abbrev pub listWord : Kind → List ℕ

@@ -1,4 +1,4 @@
--- `listing::put_name` meets its contract: the text has room from the place on, so the name's own call writes it. Assumes nothing.
+-- `lines::put_name` meets its contract: the text has room from the place on, so the name's own call writes it. Assumes nothing.
 use mathlib.Core.Path.{_≡_}
 use native.Mathlib.Omega.{arith}
 use lib.ListN.{length}
@@ -11,8 +11,8 @@ use borrow.Rule.Slice.PartMut.{putMid}
 use Prim.Native.Nat.{_+_, _-_}
 use Rattle.name.specs.Name.{safeText}
 use Rattle.text.proofs.Puts.{PartWrote, part-wrote, put-then, room-first, room-then}
-use Rattle.listing.proofs.put_name.Statement.{statement}
-use Rattle.listing.proofs.put_name.Tie as tie
+use Rattle.lines.proofs.put_name.Statement.{statement}
+use Rattle.lines.proofs.put_name.Tie as tie
 
 wrote : (c : tie.After-print-safe)
     → let s = c .before .before .before .before in

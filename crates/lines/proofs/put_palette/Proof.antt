@@ -1,10 +1,10 @@
--- `listing::put_palette` meets its contract: the line's fields are put one behind the other. Assumes nothing.
+-- `lines::put_palette` meets its contract: the line's fields are put one behind the other. Assumes nothing.
 use borrow.Author.Needs.{needs}
 use Rattle.text.specs.Text.{ascii, line}
-use Rattle.listing.specs.Listing.{paletteLine}
+use Rattle.lines.specs.Lines.{paletteLine}
 use Rattle.text.proofs.Puts.{put-then, room-first, room-then, room-next}
-use Rattle.listing.proofs.put_palette.Statement.{statement}
-use Rattle.listing.proofs.put_palette.Tie as tie
+use Rattle.lines.proofs.put_palette.Statement.{statement}
+use Rattle.lines.proofs.put_palette.Tie as tie
 
 slice-aggregate-put-number : tie.Need-slice-aggregate-put-number
 slice-aggregate-put-number c = search needs
