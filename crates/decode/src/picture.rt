@@ -7,7 +7,7 @@ use nitro::tex::locate;
 use util::cur::part_at;
 ghost use Rattle.errors.specs.Refusal.{countedOutcome};
 ghost use Rattle.errors.specs.Output.{Writes};
-ghost use Rattle.nitro.specs.Script.{run};
+ghost use Rattle.info_block.specs.Script.{run};
 ghost use Rattle.nitro.specs.Tex as Tex;
 ghost use Rattle.decode.specs.Pictures as Pictures;
 

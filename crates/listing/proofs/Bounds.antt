@@ -11,7 +11,7 @@ use lib.Dec.{ltb, lit≤, lit<}
 use Rattle.util.specs.Outcome.{result, refusal}
 use Rattle.errors.specs.Refusal.{Fault, badStamp, badDummy, badSize, faultNumber}
 use Rattle.errors.specs.declared.Kind.the-variants.{Texture, Palette}
-use Rattle.nitro.specs.Script.{Answer, short, fault, whole, run, outcomeOf}
+use Rattle.info_block.specs.Script.{Answer, short, fault, whole, run, outcomeOf}
 use Rattle.nitro.specs.Tex.{Contents, readTex}
 use Rattle.nitro.specs.Calls.{textureRecord, paletteRecord}
 use Rattle.nitro.proofs.Sizes.{want-small, textures-few, palettes-few, texture-name, palette-name, palette-off}

@@ -6,8 +6,8 @@ use Rattle.util.specs.Number.{numberAt}
 use Rattle.nds.specs.Params.{width, height}
 use Rattle.nds.specs.Formats.{alpha, dataLength}
 use Rattle.name.specs.Name.{trimmed, safeText}
-use Rattle.nitro.specs.Script.{run, outcomeOf, bytesAt, expect, eachFrom, _>>=_, _>>_}
-use Rattle.nitro.specs.InfoBlock.{wholeList, nameList}
+use Rattle.info_block.specs.Script.{run, outcomeOf, bytesAt, expect, eachFrom, _>>=_, _>>_}
+use Rattle.info_block.specs.InfoBlock.{wholeList, nameList}
 use Rattle.nitro.specs.Tex.{headerOf, dataAt, readHeader, readPalBlock, readSecond, readData, readTexture, readTextures, readPalettes, readTex}
 use Rattle.nitro.proofs.Sample.{leaf, sample}
 use Rattle.text.specs.Text.{ascii, decimalBelow, decimal, line}

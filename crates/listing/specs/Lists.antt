@@ -1,7 +1,7 @@
 -- What the private functions put of a listing; no public contract cites it. Assumes nothing.
 use Prim.Native.Nat.{ℕ, zero, suc}
 use mathlib.Core.List.{List, [], _∷_, _++_}
-use Rattle.nitro.specs.Script.{Answer}
+use Rattle.info_block.specs.Script.{Answer}
 use Rattle.nitro.specs.Tex.{Contents}
 use Rattle.nitro.specs.Calls.{textureOf, paletteOf, noTexture, noPalette, valueOr}
 use Rattle.errors.specs.declared.Kind.{Kind}

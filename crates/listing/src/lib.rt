@@ -17,7 +17,7 @@ ghost use Rattle.io.specs.Counts.{Counts};
 ghost use Rattle.util.specs.Outcome.{result};
 ghost use Rattle.errors.specs.Output.{Writes};
 ghost use Rattle.errors.specs.Refusal.{countedOutcome};
-ghost use Rattle.nitro.specs.Script.{run};
+ghost use Rattle.info_block.specs.Script.{run};
 ghost use Rattle.nitro.specs.Tex.{readTex};
 ghost use Rattle.text.specs.Text.{ascii, decimal, line};
 ghost use Rattle.text.specs.Put.{Room, Put};

@@ -15,8 +15,8 @@ use Rattle.errors.specs.declared.Kind.the-variants as kinds
 use Rattle.errors.specs.declared.Refusal.{Refusal}
 use Rattle.errors.specs.declared.Status.the-variants.{Done, Refused}
 use Rattle.errors.proofs.Refusals.{refusal-not, refusal-any}
-use Rattle.nitro.specs.Script.{Answer, short, fault, whole, run, outcomeOf}
-use Rattle.nitro.specs.InfoBlock.{listAt, listLength}
+use Rattle.info_block.specs.Script.{Answer, short, fault, whole, run, outcomeOf}
+use Rattle.info_block.specs.InfoBlock.{listAt, listLength}
 use Rattle.nitro.specs.Tex as Tex
 use Rattle.nitro.specs.Tex.{Contents, headerOf, readTex}
 use Rattle.nitro.specs.Calls.{Answers, entry, textureEntry, paletteEntry, valueOr, readingOf, textureOf, partOf, data1Of, data2Of, palBlockOf}
@@ -29,7 +29,7 @@ use Rattle.nitro.specs.declared.tex.PaletteChoice.the-variants as choice
 use Rattle.nitro.specs.declared.tex.PaletteOff.{PaletteOff}
 use Rattle.nitro.specs.declared.tex.PaletteOff.the-variants as offs
 use Rattle.nitro.specs.declared.tex.Places.{Places}
-use Rattle.nitro.proofs.Runs.{whole-outcome}
+use Rattle.info_block.proofs.Runs.{whole-outcome}
 use Rattle.nitro.proofs.Readings.{TextureAt, finished, textures-listed, palettes-listed, pal-block-whole}
 
 -- entry n of a list, and none

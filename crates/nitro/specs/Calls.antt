@@ -13,7 +13,7 @@ use Rattle.errors.specs.declared.Kind.{Kind}
 use Rattle.errors.specs.declared.Kind.the-variants as kind
 use Rattle.errors.specs.declared.Status.{Status}
 use Rattle.errors.specs.declared.Status.the-variants.{Done, Refused}
-use Rattle.nitro.specs.Script.{Answer, outcomeOf}
+use Rattle.info_block.specs.Script.{Answer, outcomeOf}
 use Rattle.nitro.specs.Tex.{Data, Texture, Palette, Contents, headerOf, dataAt, secondAt}
 use Rattle.nitro.specs.declared.tex.Header.{Header}
 use Rattle.nitro.specs.declared.tex.Reading.{Reading}

@@ -1,4 +1,4 @@
--- What the functions between the script and the calls hand on: that a step passed, a count, the header, and the layout, which is the
+-- What the functions between the script and the calls hand on: a count, the header, and the layout, which is the
 -- header and both counts. No public call of `tex.rt` answers with these. Assumes nothing.
 use Prim.Native.Nat.{ℕ, _*_}
 use mathlib.Core.Bool.{Bool, true, cond}
@@ -9,8 +9,8 @@ use Rattle.util.specs.Outcome.{Outcome, result, refusal}
 use Rattle.errors.specs.Refusal.{absentNumber, refusalOutcome}
 use Rattle.errors.specs.declared.Kind.{Kind}
 use Rattle.errors.specs.declared.Kind.the-variants as kind
-use Rattle.nitro.specs.Script.{Script, Answer, run, outcomeOf, each}
-use Rattle.nitro.specs.InfoBlock.{listAt, entryNumber}
+use Rattle.info_block.specs.Script.{Script, Answer, run, outcomeOf, each}
+use Rattle.info_block.specs.InfoBlock.{listAt, entryNumber}
 use Rattle.nitro.specs.Tex.{Texture, Contents, headerOf, readTexture}
 use Rattle.nitro.specs.Calls.{placesAt}
 use Rattle.nitro.specs.declared.tex.Header.{Header}
@@ -25,11 +25,7 @@ use Rattle.nitro.specs.declared.tex.PaletteOff.{PaletteOff}
 use Rattle.nitro.specs.declared.tex.PaletteOff.the-variants as offs
 use Rattle.nitro.specs.declared.tex.Places.{Places}
 
--- That a script reached its end.
-abbrev pub passing : {A : Type 0} → Script A → (block : List ℕ) → Outcome (Unit {0})
-passing s block = outcomeOf (run s block) λ _. result tt
-
--- How many things it came to.
+-- How many things a script came to.
 abbrev pub counting : {A : Type 0} → Script (List A) → (block : List ℕ) → Outcome ℕ
 counting s block = outcomeOf (run s block) λ found. result (length found)
 

@@ -9,8 +9,8 @@ use Rattle.nds.specs.Params.{format, offset}
 use Rattle.nds.specs.Formats.{dataLength}
 use Rattle.errors.specs.Refusal.{badStamp}
 use Rattle.errors.specs.declared.Kind.the-variants as kind
-use Rattle.nitro.specs.Script.{Script, done, bytesAt, expect, each, _>>=_, _>>_}
-use Rattle.nitro.specs.InfoBlock.{NameList, nameList, entryName, entryNumber}
+use Rattle.info_block.specs.Script.{Script, done, bytesAt, expect, each, _>>=_, _>>_}
+use Rattle.info_block.specs.InfoBlock.{NameList, nameList, entryName, entryNumber}
 use Rattle.nitro.specs.declared.tex.Header.{Header}
 
 -- What a finished reading holds: the "names, words, data, palettes" of the demands. Second data is a block-compressed texture's.

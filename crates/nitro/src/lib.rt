@@ -1,3 +1,2 @@
 // Blocks: apicula's src/nitro, name lists, the reading of a TEX0 block, and its records and data parts.
-pub mod info_block;
 pub mod tex;

@@ -1,13 +1,12 @@
 // TEX0 blocks: the reading, and what it found, as records and as parts of the block.
 //
 // A reading keeps nothing but positions and counts. Each call reads the block, and then picks what it was asked for.
-use crate::info_block;
-use crate::info_block::entry_name;
-use crate::info_block::take;
 use errors::Counted;
 use errors::Kind;
 use errors::Refusal;
 use errors::Status;
+use info_block::entry_name;
+use info_block::take;
 use name::Name;
 use nds::texture_formats::Alpha;
 use nds::texture_params::TextureParams;
@@ -22,8 +21,8 @@ ghost use lib.ListN.{length, take as firstBytes};
 ghost use Rattle.util.specs.Outcome.{result};
 ghost use Rattle.errors.specs.Refusal.{statusOutcome, countedOutcome};
 ghost use Rattle.errors.specs.declared.Kind.the-variants as kinds;
-ghost use Rattle.nitro.specs.Script.{run, outcomeOf};
-ghost use Rattle.nitro.specs.InfoBlock.{listAt, listLength, entryNumber};
+ghost use Rattle.info_block.specs.Script.{run, outcomeOf, passing};
+ghost use Rattle.info_block.specs.InfoBlock.{listAt, listLength, entryNumber};
 ghost use Rattle.nitro.specs.Tex as Tex;
 ghost use Rattle.nitro.specs.Calls as Calls;
 ghost use Rattle.nitro.specs.Layouts as Layouts;
@@ -179,7 +178,7 @@ fn pal_block_len(header: Header) -> usize
 
 // Whether the palette block is there.
 fn take_pal_block(block: &[u8], header: Header) -> Status
-    ensures { λ r. ⌜ statusOutcome r ≡ Layouts.passing (Tex.readPalBlock header) (now (block .entry)) ⌝ }
+    ensures { λ r. ⌜ statusOutcome r ≡ passing (Tex.readPalBlock header) (now (block .entry)) ⌝ }
 {
     take(block, header.pal_block_off as usize, pal_block_len(header))
 }
@@ -207,7 +206,7 @@ fn data2_pos(header: Header, params: TextureParams) -> usize
 
 // Whether the second data is there, for a texture that has any.
 fn take_data2(block: &[u8], header: Header, params: TextureParams) -> Status
-    ensures { λ r. ⌜ statusOutcome r ≡ Layouts.passing (Tex.readSecond header (params .0)) (now (block .entry)) ⌝ }
+    ensures { λ r. ⌜ statusOutcome r ≡ passing (Tex.readSecond header (params .0)) (now (block .entry)) ⌝ }
 {
     let format = params.format();
     if format.0 == 5 {
@@ -219,7 +218,7 @@ fn take_data2(block: &[u8], header: Header, params: TextureParams) -> Status
 
 // Whether a texture's data are there, the first and then the second. A texture of format 0 has 0 bytes, and a position all the same.
 fn take_data(block: &[u8], header: Header, params: TextureParams) -> Status
-    ensures { λ r. ⌜ statusOutcome r ≡ Layouts.passing (Tex.readData header (params .0)) (now (block .entry)) ⌝ }
+    ensures { λ r. ⌜ statusOutcome r ≡ passing (Tex.readData header (params .0)) (now (block .entry)) ⌝ }
 {
     match take(block, data1_pos(header, params), params.byte_len()) {
         Status::Refused(refusal) => Status::Refused(refusal),

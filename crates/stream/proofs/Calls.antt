@@ -15,15 +15,15 @@ use Rattle.errors.specs.Refusal.{Fault, badStamp, badDummy, badSize, faultNumbe
 use Rattle.errors.specs.Output.{writeOutcome, writeOutput}
 use Rattle.errors.specs.declared.Kind.{Kind}
 use Rattle.errors.specs.declared.Kind.the-variants as kinds
-use Rattle.nitro.specs.Script.{Script, Answer, short, fault, whole, run, outcomeOf}
-use Rattle.nitro.specs.InfoBlock.{nameList, listCount}
+use Rattle.info_block.specs.Script.{Script, Answer, short, fault, whole, run, outcomeOf}
+use Rattle.info_block.specs.InfoBlock.{nameList, listCount}
 use Rattle.nitro.specs.Tex.{Palette, Contents, readTex}
 use Rattle.nitro.specs.Calls as Calls
 use Rattle.nitro.specs.declared.tex.PaletteChoice.{PaletteChoice}
 use Rattle.nitro.specs.declared.tex.PaletteChoice.the-variants as choices
 use Rattle.nitro.specs.declared.tex.PaletteOff.{PaletteOff}
 use Rattle.nitro.specs.declared.tex.Places.{Places}
-use Rattle.nitro.proofs.Runs.{bytes-out}
+use Rattle.info_block.proofs.Runs.{bytes-out}
 use Rattle.nitro.proofs.Readings.{header-follows, read-header-follows}
 use Rattle.decode.specs.Pictures.{ready, decoded, pictureOf, lacksPalette, lacksData}
 use Rattle.stream.specs.Prefix.{nothing}

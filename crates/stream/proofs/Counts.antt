@@ -15,12 +15,12 @@ use Rattle.nds.specs.Formats.{dataLength}
 use Rattle.errors.specs.Refusal.{Fault}
 use Rattle.errors.specs.declared.Kind.{Kind}
 use Rattle.errors.specs.declared.Kind.the-variants as kinds
-use Rattle.nitro.specs.Script.{Script, done, refuse, get, whole, run, ends, records, bytesAt, expect, eachFrom, _>>=_, _>>_}
-use Rattle.nitro.specs.InfoBlock.{NameList, wholeList, nameList}
+use Rattle.info_block.specs.Script.{Script, done, refuse, get, whole, run, ends, records, bytesAt, expect, eachFrom, _>>=_, _>>_}
+use Rattle.info_block.specs.InfoBlock.{NameList, wholeList, nameList}
 use Rattle.nitro.specs.Tex.{hasStamp, headerOf, dataAt, secondAt, paletteAt, readHeader, readPalBlock, readSecond, readData, readTexture}
 use Rattle.nitro.specs.Tex.{readTextures, readPalettes, readTex}
-use Rattle.nitro.proofs.Runs.{both, bytes-whole}
-use Rattle.nitro.proofs.Lists.{listed}
+use Rattle.info_block.proofs.Runs.{both, bytes-whole}
+use Rattle.info_block.proofs.Lists.{listed}
 use Rattle.nitro.proofs.Readings.{header-there, header-whole}
 use Rattle.stream.specs.Fetch.{shortAnswers, textureCount}
 

@@ -9,9 +9,9 @@ use Rattle.util.specs.Outcome.{result, refusal}
 use Rattle.nds.specs.Params.{width, height, format, offset}
 use Rattle.nds.specs.Formats.{dataLength}
 use Rattle.name.specs.Name.{trimmed, safeText}
-use Rattle.nitro.specs.Script.{run, ends, records, outcomeOf, bytesAt, expect, eachFrom, _>>=_, _>>_}
+use Rattle.info_block.specs.Script.{run, ends, records, outcomeOf, bytesAt, expect, eachFrom, _>>=_, _>>_}
 use Rattle.nitro.specs.Tex.{headerOf, dataAt, readHeader, readPalBlock, readSecond, readData, readTexture, readTextures, readPalettes, readTex}
-use Rattle.nitro.specs.InfoBlock.{wholeList, nameList}
+use Rattle.info_block.specs.InfoBlock.{wholeList, nameList}
 use Rattle.nitro.specs.Calls.{readingOf}
 use Rattle.nitro.proofs.Sample.{leaf, sample}
 use Rattle.decode.specs.Texels.{widen, pixel, paletteColor, texelBits, alpha3, format1, opaque, mix, modeColor, format6, format7}

@@ -9,10 +9,10 @@ use lib.Dec.{eqb}
 use borrow.Author.Tests.{eqb-true}
 use Rattle.util.specs.Outcome.{Outcome, result, refusal}
 use Rattle.errors.proofs.Outputs.{refused-keeps}
-use Rattle.nitro.specs.Script.{short, ends, records}
+use Rattle.info_block.specs.Script.{short, ends, records}
 use Rattle.nitro.specs.Tex.{readTex}
 use Rattle.nitro.specs.declared.tex.PaletteChoice.{PaletteChoice}
-use Rattle.nitro.proofs.Early.{early-settled, early-waits}
+use Rattle.info_block.proofs.Early.{early-settled, early-waits}
 use Rattle.stream.specs.Fetch.{shortness, Call, shortAnswers, Fetched, pictureCall}
 use Rattle.stream.specs.Prefix.{Prefix}
 use Rattle.stream.specs.declared.shortness.Shortness.the-variants.{Needs, Enough}

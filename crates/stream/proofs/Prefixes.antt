@@ -4,9 +4,9 @@ use mathlib.Core.List.{List}
 use native.Mathlib.Omega.{arith}
 use lib.ListN.{length, take}
 use Rattle.util.specs.Outcome.{Outcome}
-use Rattle.nitro.specs.Script.{Script}
-use Rattle.nitro.proofs.Early.{early-settled, early-waits}
-use Rattle.nitro.proofs.Runs.{run-short}
+use Rattle.info_block.specs.Script.{Script}
+use Rattle.info_block.proofs.Early.{early-settled, early-waits}
+use Rattle.info_block.proofs.Runs.{run-short}
 use Rattle.stream.specs.Prefix.{Prefix, PrefixLaws}
 use Rattle.stream.proofs.Calls.{Scripted, list-scripted, reading-scripted, texture-scripted, palette-scripted, data1-scripted}
 use Rattle.stream.proofs.Calls.{data2-scripted, pal-block-scripted, locate-scripted, picture-scripted}

@@ -9,9 +9,9 @@ use lib.ListN.{length, take}
 use Rattle.util.specs.Outcome.{Outcome, refusal}
 use Rattle.errors.specs.Output.{writeOutcome, writeOutput}
 use Rattle.errors.specs.declared.Kind.{Kind}
-use Rattle.nitro.specs.Script.{run}
+use Rattle.info_block.specs.Script.{run}
 use Rattle.nitro.specs.Tex.{readTex}
-use Rattle.nitro.specs.InfoBlock.{nameList, listCount}
+use Rattle.info_block.specs.InfoBlock.{nameList, listCount}
 use Rattle.nitro.specs.Calls as Calls
 use Rattle.nitro.specs.declared.tex.PaletteChoice.{PaletteChoice}
 use Rattle.decode.specs.Pictures.{pictureOf}

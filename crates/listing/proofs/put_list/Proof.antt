@@ -3,7 +3,7 @@ use Prim.Native.Nat.{_-_, _≤_}
 use mathlib.Core.Path.{_≡_}
 use native.Mathlib.Omega.{arith}
 use denote.Ref.{now}
-use Rattle.nitro.specs.Script.{run}
+use Rattle.info_block.specs.Script.{run}
 use Rattle.nitro.specs.Tex.{readTex}
 use Rattle.text.specs.Put.{Room, Put}
 use Rattle.listing.specs.Lists.{entryLine, lines, listOf}

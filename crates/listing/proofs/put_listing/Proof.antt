@@ -8,7 +8,7 @@ use denote.Ref.{now}
 use borrow.Author.Needs.{needs}
 use Rattle.errors.specs.Refusal.{refusalNumber, refusalReturned}
 use Rattle.errors.specs.declared.Kind.the-variants.{Texture, Palette}
-use Rattle.nitro.specs.Script.{run}
+use Rattle.info_block.specs.Script.{run}
 use Rattle.nitro.specs.Tex.{readTex}
 use Rattle.listing.specs.Listing.{listingText, refusedLine}
 use Rattle.listing.specs.Lists.{listOf}

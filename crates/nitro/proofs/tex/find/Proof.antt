@@ -2,7 +2,7 @@
 use borrow.Author.Needs.{needs}
 use Rattle.nitro.specs.Layouts.{layoutAnswer, layoutWith}
 use Rattle.nitro.proofs.Answers.{with-entry, without-entry}
-use Rattle.nitro.proofs.Runs.{ended, follows-self, refused}
+use Rattle.info_block.proofs.Runs.{ended, follows-self, refused}
 use Rattle.nitro.proofs.tex.find.Statement.{statement}
 use Rattle.nitro.proofs.tex.find.Tie as tie
 

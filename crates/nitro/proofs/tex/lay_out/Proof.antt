@@ -3,10 +3,10 @@ use mathlib.Core.Path.{_≡_, ap, sym, _∙_}
 use lib.ListN.{length}
 use denote.Ref.{now}
 use borrow.Author.Needs.{needs}
-use Rattle.nitro.specs.Script.{run, whole}
+use Rattle.info_block.specs.Script.{run, whole}
 use Rattle.nitro.specs.Tex.{readHeader, readPalBlock, readTextures}
 use Rattle.nitro.specs.Layouts.{layoutAnswer}
-use Rattle.nitro.proofs.Runs.{Ended, ended, whole-outcome, refused}
+use Rattle.info_block.proofs.Runs.{Ended, ended, whole-outcome, refused}
 use Rattle.nitro.proofs.Readings.{header-whole, read-header-follows, read-pal-block-follows, read-textures-follows}
 use Rattle.nitro.proofs.Readings.{read-palettes-follows, read-whole}
 use Rattle.nitro.proofs.tex.lay_out.Statement.{statement}

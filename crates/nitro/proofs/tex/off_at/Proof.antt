@@ -6,7 +6,7 @@ use denote.Ref.{now}
 use borrow.Author.Needs.{needs}
 use Rattle.util.proofs.Numbers.{number-in-part}
 use Rattle.errors.specs.declared.Kind.the-variants.{Palette}
-use Rattle.nitro.specs.InfoBlock.{datumAt, listLength}
+use Rattle.info_block.specs.InfoBlock.{datumAt, listLength}
 use Rattle.nitro.proofs.tex.off_at.Statement.{statement}
 use Rattle.nitro.proofs.tex.off_at.Tie as tie
 

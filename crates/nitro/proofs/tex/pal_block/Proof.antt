@@ -7,7 +7,7 @@ use Rattle.util.specs.Take.{takenPart}
 use Rattle.nitro.specs.Calls.{partOf, palBlockOf}
 use Rattle.nitro.specs.Layouts.{layoutAnswer}
 use Rattle.nitro.specs.declared.tex.Layout.{Layout}
-use Rattle.nitro.proofs.Runs.{ended, whole-outcome, follows-self, refused}
+use Rattle.info_block.proofs.Runs.{ended, whole-outcome, follows-self, refused}
 use Rattle.nitro.proofs.Readings.{finished, pal-block-whole}
 use Rattle.nitro.proofs.tex.pal_block.Statement.{statement}
 use Rattle.nitro.proofs.tex.pal_block.Tie as tie

@@ -6,7 +6,7 @@ use lib.ListN.{length}
 use denote.Ref.{now}
 use borrow.Author.Needs.{needs}
 use Rattle.util.specs.Outcome.{result}
-use Rattle.nitro.proofs.Runs.{take-within, whole-outcome, fault-outcome, refused}
+use Rattle.info_block.proofs.Runs.{take-within, whole-outcome, fault-outcome, refused}
 use Rattle.nitro.proofs.Readings.{header-follows, stamp-bad, header-read}
 use Rattle.nitro.proofs.tex.read_header.Statement.{statement}
 use Rattle.nitro.proofs.tex.read_header.Tie as tie

@@ -6,10 +6,10 @@ use denote.Ref.{now}
 use borrow.Author.Needs.{needs}
 use Rattle.util.specs.Outcome.{result}
 use Rattle.errors.specs.declared.Kind.the-variants.{Texture}
-use Rattle.nitro.specs.Script.{run, whole, outcomeOf}
-use Rattle.nitro.specs.InfoBlock.{listAt, nameList}
-use Rattle.nitro.proofs.Runs.{refused}
-use Rattle.nitro.proofs.Lists.{name-listed, list-counted}
+use Rattle.info_block.specs.Script.{run, whole, outcomeOf}
+use Rattle.info_block.specs.InfoBlock.{listAt, nameList}
+use Rattle.info_block.proofs.Runs.{refused}
+use Rattle.info_block.proofs.Lists.{name-listed, list-counted}
 use Rattle.nitro.proofs.Readings.{textures-follow, textures-read}
 use Rattle.nitro.proofs.tex.read_textures.Statement.{statement}
 use Rattle.nitro.proofs.tex.read_textures.Tie as tie

@@ -9,12 +9,12 @@ use denote.Ref.{now}
 use borrow.Author.Needs.{needs}
 use Rattle.util.specs.Outcome.{Outcome, result}
 use Rattle.errors.specs.declared.Kind.the-variants as kinds
-use Rattle.nitro.specs.Script.{Script, run, outcomeOf, eachFrom}
-use Rattle.nitro.specs.InfoBlock.{listAt}
+use Rattle.info_block.specs.Script.{Script, run, outcomeOf, eachFrom}
+use Rattle.info_block.specs.InfoBlock.{listAt}
 use Rattle.nitro.specs.Tex.{Texture, readTexture}
 use Rattle.nitro.specs.Layouts.{counting, textureRow}
 use Rattle.nitro.specs.declared.tex.Header.{Header}
-use Rattle.nitro.proofs.Runs.{ended, each-turn, each-none, each-count, each-follows, follows-trans, refused}
+use Rattle.info_block.proofs.Runs.{ended, each-turn, each-none, each-count, each-follows, follows-trans, refused}
 use Rattle.nitro.proofs.Readings.{texture-follows, texture-read}
 use Rattle.nitro.proofs.tex.take_all_data.Statement.{statement}
 use Rattle.nitro.proofs.tex.take_all_data.Tie as tie

@@ -4,7 +4,7 @@ use native.Mathlib.Omega.{arith}
 use denote.Ref.{now}
 use borrow.Author.Needs.{needs}
 use Rattle.nds.proofs.Sizes.{data-length-lt}
-use Rattle.nitro.proofs.Runs.{take-within, refused}
+use Rattle.info_block.proofs.Runs.{take-within, refused}
 use Rattle.nitro.proofs.Readings.{data-follows, first-taken}
 use Rattle.nitro.proofs.tex.take_data.Statement.{statement}
 use Rattle.nitro.proofs.tex.take_data.Tie as tie

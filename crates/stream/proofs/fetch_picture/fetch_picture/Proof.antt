@@ -7,7 +7,7 @@ use denote.Ref.{now}
 use borrow.Author.Needs.{needs}
 use Rattle.errors.specs.Refusal.{countedOutcome}
 use Rattle.errors.specs.Output.{writeOutcome, writeOutput, Writes}
-use Rattle.nitro.specs.Script.{run}
+use Rattle.info_block.specs.Script.{run}
 use Rattle.nitro.specs.Tex.{readTex}
 use Rattle.decode.specs.Pictures.{pictureOf}
 use Rattle.stream.specs.Fetch.{pictureCall}

@@ -1,4 +1,4 @@
--- `nitro::info_block::name_at` meets its contract: the loop writes the block's bytes to the array, byte after byte. Assumes nothing.
+-- `info_block::name_at` meets its contract: the loop writes the block's bytes to the array, byte after byte. Assumes nothing.
 use Prim.Native.Nat.{_-_, _≤_, _<_}
 use mathlib.Core.Path.{_≡_, _∙_}
 use native.Mathlib.Omega.{arith}
@@ -6,8 +6,8 @@ use lib.ListN.{length, take, drop, length-drop}
 use lib.Seq.{getD-drop}
 use Rattle.errors.proofs.Outputs.{Wrote, wrote-none, wrote-byte, wrote-all}
 use Rattle.name.proofs.Texts.{take-more}
-use Rattle.nitro.proofs.info_block.name_at.Statement.{statement}
-use Rattle.nitro.proofs.info_block.name_at.Tie as tie
+use Rattle.info_block.proofs.name_at.Statement.{statement}
+use Rattle.info_block.proofs.name_at.Tie as tie
 
 abbrev Inv-loop : tie.InvT-loop
 Inv-loop block pos bytes₀ i₀ bytes i = (i ≤ 16) × Wrote (take i (drop pos block)) bytes₀ i bytes

@@ -1,12 +1,12 @@
--- `nitro::info_block::take` meets its contract: the case that `take_at` answers says whether the bytes are there. Assumes nothing.
+-- `info_block::take` meets its contract: the case that `take_at` answers says whether the bytes are there. Assumes nothing.
 use mathlib.Core.Path.{ap, _∙_}
 use native.Mathlib.Omega.{arith}
 use borrow.Author.Needs.{needs}
 use Rattle.util.specs.Outcome.{refusal}
 use Rattle.util.proofs.Takes.{took, lacked, low-exact}
-use Rattle.nitro.proofs.Runs.{bytes-in, bytes-out, whole-outcome, short-outcome}
-use Rattle.nitro.proofs.info_block.take.Statement.{statement}
-use Rattle.nitro.proofs.info_block.take.Tie as tie
+use Rattle.info_block.proofs.Runs.{bytes-in, bytes-out, whole-outcome, short-outcome}
+use Rattle.info_block.proofs.take.Statement.{statement}
+use Rattle.info_block.proofs.take.Tie as tie
 
 take-at-requires : tie.Need-take-at-requires
 take-at-requires c κs = search needs

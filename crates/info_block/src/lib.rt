@@ -12,12 +12,11 @@ ghost use mathlib.Core.Path.{_≡_};
 ghost use Prim.Native.Nat.{_+_, _<_, _≤_, _^_};
 ghost use lib.ListN.{length, take as firstBytes, drop};
 ghost use Rattle.errors.specs.Refusal.{statusOutcome, countedOutcome};
-ghost use Rattle.nitro.specs.Script.{bytesAt};
-ghost use Rattle.nitro.specs.InfoBlock as InfoBlock;
-ghost use Rattle.nitro.specs.Layouts.{passing};
+ghost use Rattle.info_block.specs.Script.{bytesAt, passing};
+ghost use Rattle.info_block.specs.InfoBlock as InfoBlock;
 
 // Whether block holds n bytes at pos.
-pub(crate) fn take(block: &[u8], pos: usize, n: usize) -> Status
+pub fn take(block: &[u8], pos: usize, n: usize) -> Status
     requires { ⌜ pos + n < 2 ^ 64 ⌝ }
     ensures { λ r. ⌜ statusOutcome r ≡ passing (bytesAt pos n) (now (block .entry)) ⌝ }
 {
@@ -28,7 +27,7 @@ pub(crate) fn take(block: &[u8], pos: usize, n: usize) -> Status
 }
 
 // The size of an entry's datum.
-pub(crate) fn datum_size(kind: Kind) -> usize
+fn datum_size(kind: Kind) -> usize
     ensures { λ r. ⌜ r ≡ InfoBlock.datumBytes kind ⌝ }
 {
     match kind {
@@ -88,7 +87,7 @@ fn name_at(block: &[u8], pos: usize) -> Name
 }
 
 // The name of entry n of the list of c entries at pos.
-pub(crate) fn entry_name(block: &[u8], kind: Kind, pos: usize, c: usize, n: usize) -> Name
+pub fn entry_name(block: &[u8], kind: Kind, pos: usize, c: usize, n: usize) -> Name
     requires { ⌜ (pos + InfoBlock.listLength kind c ≤ length (now block)) × (n < c) ⌝ }
     ensures { λ r. ⌜ r .0 ≡ InfoBlock.entryName kind (InfoBlock.listAt kind pos c (now (block .entry))) n ⌝ }
 {

@@ -1,12 +1,12 @@
--- `nitro::info_block::entry_name` meets its contract: a name within the list is one within the block. Assumes nothing.
+-- `info_block::entry_name` meets its contract: a name within the list is one within the block. Assumes nothing.
 use mathlib.Core.Path.{sym, _∙_}
 use native.Mathlib.Omega.{arith}
 use denote.Ref.{now}
 use borrow.Author.Needs.{needs}
 use Rattle.util.proofs.Parts.{part-of-part}
-use Rattle.nitro.specs.InfoBlock.{nameAt, listLength}
-use Rattle.nitro.proofs.info_block.entry_name.Statement.{statement}
-use Rattle.nitro.proofs.info_block.entry_name.Tie as tie
+use Rattle.info_block.specs.InfoBlock.{nameAt, listLength}
+use Rattle.info_block.proofs.entry_name.Statement.{statement}
+use Rattle.info_block.proofs.entry_name.Tie as tie
 
 datum-size-requires : tie.Need-datum-size-requires
 datum-size-requires c κs = search needs

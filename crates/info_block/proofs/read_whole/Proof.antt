@@ -1,15 +1,15 @@
--- `nitro::info_block::read_whole` meets its contract: each return is an outcome of `wholeList`. Assumes nothing.
+-- `info_block::read_whole` meets its contract: each return is an outcome of `wholeList`. Assumes nothing.
 use Prim.Native.Nat.{_+_, _≤_}
 use mathlib.Core.Path.{sym, _∙_}
 use native.Mathlib.Omega.{arith}
 use lib.ListN.{length}
 use denote.Ref.{now}
 use borrow.Author.Needs.{needs}
-use Rattle.nitro.specs.InfoBlock.{listLength}
-use Rattle.nitro.proofs.Runs.{take-within, whole-outcome, fault-outcome, refused}
-use Rattle.nitro.proofs.Lists.{data-small, list-follows, dummy-bad, size-bad, list-passes}
-use Rattle.nitro.proofs.info_block.read_whole.Statement.{statement}
-use Rattle.nitro.proofs.info_block.read_whole.Tie as tie
+use Rattle.info_block.specs.InfoBlock.{listLength}
+use Rattle.info_block.proofs.Runs.{take-within, whole-outcome, fault-outcome, refused}
+use Rattle.info_block.proofs.Lists.{data-small, list-follows, dummy-bad, size-bad, list-passes}
+use Rattle.info_block.proofs.read_whole.Statement.{statement}
+use Rattle.info_block.proofs.read_whole.Tie as tie
 
 datum-size-requires : tie.Need-datum-size-requires
 datum-size-requires c κs = search needs

@@ -4,7 +4,7 @@ use mathlib.Core.Bool.{Bool, cond}
 use mathlib.Core.List.{List, [], _∷_}
 use lib.ListN.{length, take, drop}
 use lib.Dec.{leb, ltb}
-use Rattle.util.specs.Outcome.{Outcome, refusal}
+use Rattle.util.specs.Outcome.{Outcome, result, refusal}
 use Rattle.errors.specs.Refusal.{Fault, faultNumber}
 
 infixl 1 _>>=_
@@ -45,6 +45,10 @@ unfoldable pub outcomeOf : {A B : Type 0} → Answer A → (A → Outcome B) →
 outcomeOf (short needed) f = refusal 1 needed
 outcomeOf (fault found) f = refusal (faultNumber found) 0
 outcomeOf (whole a) f = f a
+
+-- That a script reached its end.
+abbrev pub passing : {A : Type 0} → Script A → (block : List ℕ) → Outcome (Unit {0})
+passing s block = outcomeOf (run s block) λ _. result tt
 
 -- One script, and then the next. With these two a script is written as a `do` block, a step a line.
 unfoldable pub _>>=_ : {A B : Type 0} → Script A → (A → Script B) → Script B

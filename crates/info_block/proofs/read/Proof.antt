@@ -1,4 +1,4 @@
--- `nitro::info_block::read` meets its contract: once the count is there, the list is read whole. Assumes nothing.
+-- `info_block::read` meets its contract: once the count is there, the list is read whole. Assumes nothing.
 use Prim.Native.Nat.{_+_, _≤_}
 use mathlib.Core.Path.{ap, sym, _∙_}
 use native.Mathlib.Omega.{arith}
@@ -6,11 +6,11 @@ use lib.ListN.{length}
 use denote.Ref.{now}
 use borrow.Author.Needs.{needs}
 use Rattle.util.specs.Outcome.{result}
-use Rattle.nitro.specs.Script.{outcomeOf}
-use Rattle.nitro.proofs.Runs.{take-within, refused}
-use Rattle.nitro.proofs.Lists.{head-follows, counted}
-use Rattle.nitro.proofs.info_block.read.Statement.{statement}
-use Rattle.nitro.proofs.info_block.read.Tie as tie
+use Rattle.info_block.specs.Script.{outcomeOf}
+use Rattle.info_block.proofs.Runs.{take-within, refused}
+use Rattle.info_block.proofs.Lists.{head-follows, counted}
+use Rattle.info_block.proofs.read.Statement.{statement}
+use Rattle.info_block.proofs.read.Tie as tie
 
 take-requires : tie.Need-take-requires
 take-requires c κs = search needs

@@ -1,0 +1,2 @@
+pub mod InfoBlock
+pub mod Script
