@@ -1,4 +1,4 @@
-// Name lists: c entries, each a datum and a name of 16 bytes.
+// Name lists: apicula's src/nitro/info_block.rs. A list has c entries, each a datum and a name of 16 bytes.
 use errors::Counted;
 use errors::Kind;
 use errors::Refusal;

@@ -19,7 +19,7 @@ unfoldable pub linesFrom : {A : Type 0} → (number : ℕ) → (ℕ → A → Li
 linesFrom number lineOf [] = []
 linesFrom number lineOf (first ∷ later) = lineOf number first ++ linesFrom (suc number) lineOf later
 
--- "Each list opens with its word and its count."
+-- 01, "Listing program": "Each list opens with its word and its count."
 unfoldable pub headed : {A : Type 0} → (word : String) → (ℕ → A → List ℕ) → List A → List ℕ
 headed word lineOf records = line (ascii word ∷ decimal (length records) ∷ []) ++ linesFrom 0 lineOf records
 
@@ -30,7 +30,7 @@ textureRecords c = map (λ t. textureRecord (t .name) (t .word)) (c .textures)
 abbrev pub paletteRecords : Contents → List PaletteRecord
 paletteRecords c = map (λ p. paletteRecord (p .name) (p .off)) (c .palettes)
 
--- The two lists of the sample.
+-- The two lists, in the order that the sample has.
 unfoldable pub listsOf : Contents → List ℕ
 listsOf c = headed "textures" textureLine (textureRecords c) ++ headed "palettes" paletteLine (paletteRecords c)
 
