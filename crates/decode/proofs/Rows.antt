@@ -3,7 +3,7 @@
 use Prim.Native.Nat.{ℕ, zero, suc, _+_, _*_, _/_, _%_, _-_, _^_, _≤_, _<_}
 use mathlib.Core.Path.{_≡_, refl, sym, ap, _∙_, subst}
 use mathlib.Core.List.{List, [], _∷_, _++_, append-nil, append-assoc}
-use native.Mathlib.Nat.{add-zero, add-suc, suc-add, suc-mul, zero-mul, mul-comm, mul-left-comm, mul-add, mul-le-mul-right}
+use native.Mathlib.Nat.{add-zero, add-suc, suc-mul, zero-mul, mul-comm, mul-left-comm, mul-add, mul-le-mul-right}
 use native.Mathlib.Nat.{mod-eq-of-lt, div-eq-of-lt, mul-add-mod-self-left, mul-add-mod-self-right, mul-add-div, mul-add-div-right}
 use native.Mathlib.Omega.{arith}
 use lib.ListN.{length, take, drop, getD, set, length-append, length-drop, take-append-drop, drop-of-length-le}
@@ -12,17 +12,12 @@ use lib.Pow.{shr-shr}
 use borrow.Author.Count.{below-more}
 use Rattle.util.specs.Number.{numberAt}
 use Rattle.util.proofs.Numbers.{number-one, number-add}
-use Rattle.errors.proofs.Outputs.{wrote-length, wrote-more, wrote-all}
+use Rattle.errors.proofs.Outputs.{sets-append, wrote-length, wrote-more, wrote-all}
 use Rattle.decode.specs.Texels.{blockColor, format5}
 use Rattle.decode.specs.Pictures.{quads}
 use Rattle.decode.specs.Steps.{painted, pixelAt, rowBytes, byteOf, rowOf, BlockPut, compressedTexel, rowsTexel}
 use Rattle.decode.proofs.Quads.{Fours, length-quads, quads-same, quads-add, Painting, paint-none, painted-at}
 use Rattle.decode.proofs.Texels.{below-four, block-four}
-
--- bytes stored behind others that were stored
-sets-append : (l : List ℕ) (p : ℕ) (xs ys : List ℕ) → sets (sets l p xs) (p + length xs) ys ≡ sets l p (xs ++ ys)
-sets-append l p [] ys = rw add-zero
-sets-append l p (x ∷ xs) ys = rw (add-suc, ← suc-add) (sets-append (set l p x) (suc p) xs ys)
 
 -- a part of a list before, behind and around the bytes stored
 take-sets-before : (n : ℕ) (l : List ℕ) (p : ℕ) (vs : List ℕ) → n ≤ p → take n (sets l p vs) ≡ take n l

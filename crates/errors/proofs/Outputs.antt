@@ -1,8 +1,9 @@
 -- The laws of an output that is written piece after piece, and of the two cases of `Writes`. Assumes nothing.
-use Prim.Native.Nat.{ℕ, _+_, _≤_, _<_}
+use Prim.Native.Nat.{ℕ, suc, _+_, _≤_, _<_}
 use mathlib.Core.Path.{_≡_, refl, _∙_}
 use mathlib.Core.Bool.{Bool, true, false}
 use mathlib.Core.List.{List, [], _∷_, _++_, append-nil}
+use native.Mathlib.Nat.{add-zero, add-suc, suc-add}
 use native.Mathlib.Omega.{arith}
 use lib.ListN.{length, take, drop, set, length-append, length-drop, drop-of-length-le}
 use lib.Seq.{take-append-seam, drop-append-add, drop-drop, sets, sets-eq}
@@ -13,6 +14,11 @@ use Rattle.errors.specs.Refusal.{refusalOutcome}
 use Rattle.errors.specs.Output.{writeOutcome, writeOutput, Writes}
 use Rattle.errors.specs.declared.Refusal.{Refusal}
 use Rattle.errors.proofs.Refusals.{refusal-not, refusal-any}
+
+-- bytes stored behind others that were stored
+pub sets-append : (l : List ℕ) (p : ℕ) (xs ys : List ℕ) → sets (sets l p xs) (p + length xs) ys ≡ sets l p (xs ++ ys)
+sets-append l p [] ys = rw add-zero
+sets-append l p (x ∷ xs) ys = rw (add-suc, ← suc-add) (sets-append (set l p x) (suc p) xs ys)
 
 -- an output, `entry` at first and `now` after the text was written to its first `end` bytes
 pub record Wrote (text entry : List ℕ) (end : ℕ) (now : List ℕ) : Type 0 where

@@ -1,8 +1,8 @@
 -- The laws of texts that are put into an output one behind the other. Assumes nothing.
-use Prim.Native.Nat.{ℕ, suc, _+_, _-_, _<_}
+use Prim.Native.Nat.{ℕ, _+_, _-_, _<_}
 use mathlib.Core.Path.{_≡_, refl, _∙_}
-use mathlib.Core.List.{List, [], _∷_, _++_, append-nil, append-assoc}
-use native.Mathlib.Nat.{add-zero, zero-add, add-suc, suc-add}
+use mathlib.Core.List.{List, [], _++_, append-nil, append-assoc}
+use native.Mathlib.Nat.{add-zero, zero-add}
 use native.Mathlib.Numerals.{add-one}
 use native.Mathlib.Omega.{arith}
 use lib.ListN.{length, take, drop, set, getD, length-append, length-drop}
@@ -10,13 +10,9 @@ use lib.Seq.{take-suc, take-all, drop-drop, drop-length, length-take-le, sets, s
 use borrow.Rule.Slice.PartMut.{midOf, postOf, putMid, post-is}
 use Rattle.util.specs.Outcome.{Outcome, result}
 use Rattle.errors.specs.Output.{Writes}
-use Rattle.errors.proofs.Outputs.{Wrote, wrote-text, writes-fits, writes-whole}
+use Rattle.errors.proofs.Outputs.{sets-append, Wrote, wrote-text, writes-fits, writes-whole}
 use Rattle.text.specs.Text.{decimal}
 use Rattle.text.specs.Put.{Room, Put}
-
-sets-append : (xs ys l : List ℕ) (i : ℕ) → sets l i (xs ++ ys) ≡ sets (sets l i xs) (i + length xs) ys
-sets-append [] ys l i = rw add-zero
-sets-append (x ∷ xs) ys l i = rw (add-suc, ← suc-add) (sets-append xs ys (set l i x) (suc i))
 
 -- the first i bytes of a text
 pub put-none : (entry : List ℕ) (at : ℕ) → Put [] entry at entry at
@@ -26,7 +22,7 @@ pub put-byte : (text entry : List ℕ) (at i : ℕ) {out : List ℕ} → out ≡
     → set out (at + i) (getD text i 0) ≡ sets entry at (take (i + 1) text)
 put-byte text entry at i e h =
     let n : length (take i text) ≡ i = length-take-le i text (omega arith) in
-    rw (e, add-one, take-suc text i 0 h, sets-append, n)
+    rw (e, add-one, take-suc text i 0 h, ← sets-append, n)
 
 pub room-first : (text more : List ℕ) {entry : List ℕ} {at : ℕ} → Room (text ++ more) entry at → Room text entry at
 room-first text more r = record { fits = omega (arith, r .fits, length-append text more) }
