@@ -4,6 +4,8 @@ use errors::Refusal;
 use errors::Status;
 use nds::texture_params::TextureParams;
 use nitro::tex::PaletteOff;
+use util::cur::Peeked;
+use util::cur::nth_u16;
 use util::view::view_u16;
 ghost use mathlib.Core.Path.{_≡_};
 ghost use Prim.Native.Nat.{_+_, _*_, _≤_, _<_, _^_};
@@ -69,11 +71,9 @@ fn rgb555a5(rgb555: u16, a5: u8) -> [u8; 4]
 fn palette_color(pal: &[u8], off: u32, i: u16) -> u16
     ensures { λ r. ⌜ r ≡ Texels.paletteColor (now (pal .entry)) off i ⌝ }
 {
-    let at = off as usize + 2 * (i as usize);
-    if at + 2 <= pal.len() {
-        view_u16(pal, at)
-    } else {
-        0
+    match nth_u16(pal, off as usize, i as u32) {
+        Peeked::Number(color) => color as u16,
+        Peeked::Short(_) => 0,
     }
 }
 

@@ -8,7 +8,7 @@ use lib.ListN.{length, take, drop}
 use lib.Dec.{leb}
 use borrow.Author.Tests.{le-leb, lt-leb, leb-true, leb-false}
 use Rattle.util.specs.Outcome.{result, refusal}
-use Rattle.util.specs.Take.{lengthOf, takeOf, takenPart}
+use Rattle.util.specs.Take.{lengthOf, takeOf, takenPart, takenTo}
 use Rattle.util.specs.declared.cur.Needed.{Needed}
 
 -- a take that passed: its bytes are there, and its answer is `passed`
@@ -48,12 +48,13 @@ module _ {A : Type 0} (len p n : ℕ) (passed : A) where
       go true q = let z : _≡_ {A = ℕ} 0 1 = cc in absurd (omega arith)
       go false q = record { past = leb-false _ _ q; one = cc; ends = cc }
 
--- a refusal of a take is one of the same take whatever it answers when it passes
-pub same-short : {A B : Type 0} (len p n : ℕ) (passed : A) (other : B) {number needed : ℕ}
-    → refusal number needed ≡ takeOf len p n passed → refusal number needed ≡ takeOf len p n other
-same-short len p n passed other e =
+-- a refusal of a take is one of every take that ends at the same position, whatever it answers when it passes
+pub same-short : {A B : Type 0} (len p n q m : ℕ) (passed : A) (other : B) {number needed : ℕ}
+    → p + n ≡ q + m → refusal number needed ≡ takeOf len p n passed → refusal number needed ≡ takeOf len q m other
+same-short len p n q m passed other same e =
     let l = lacked len p n passed e in
-    cc (falls-short len p n other (l .past))
+    let past : len < q + m = omega (arith, l, same) in
+    cc (falls-short len q m other past)
 
 module _ (needed : Needed) where
   pub past-64 : needed .carry ≡ true → lengthOf needed ≡ needed .low + 2 ^ 64
@@ -78,6 +79,15 @@ module _ (p n : ℕ) (block : List ℕ) where
   pub part-none : length block < p + n → [] ≡ takenPart p n block
   unfolding takenPart
   part-none h = rw (lt-leb (p + n) (length block) h)
+
+module _ (len p n : ℕ) where
+  pub moves : p + n ≤ len → p + n ≡ takenTo len p n
+  unfolding takenTo
+  moves h = rw (le-leb (p + n) len h)
+
+  pub stays : len < p + n → p ≡ takenTo len p n
+  unfolding takenTo
+  stays h = rw (lt-leb (p + n) len h)
 
 -- no bytes, wherever they are said to stand
 pub part-empty : (p : ℕ) (block : List ℕ) → takenPart p 0 block ≡ []

@@ -1,4 +1,5 @@
 pub mod Bits
+pub mod Cursor
 pub mod Number
 pub mod Outcome
 pub mod Take

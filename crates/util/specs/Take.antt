@@ -4,6 +4,7 @@ use mathlib.Core.Bool.{cond}
 use mathlib.Core.List.{List, []}
 use lib.ListN.{length, take, drop}
 use lib.Dec.{leb}
+use Rattle.util.specs.Number.{numberAt}
 use Rattle.util.specs.Outcome.{Outcome, result, refusal}
 use Rattle.util.specs.declared.cur.Needed.{Needed}
 use Rattle.util.specs.declared.cur.Taken.{Taken}
@@ -30,6 +31,14 @@ peekedOutcome (peeked.Short needed) = refusal 1 (lengthOf needed)
 unfoldable pub takeOf : {A : Type 0} (len p n : ℕ) (passed : A) → Outcome A
 takeOf len p n passed = cond (leb (p + n) len) (result passed) (refusal 1 (p + n))
 
+-- A take of `size` bytes at p that answers with their number.
+abbrev pub peekOf : (size p : ℕ) → List ℕ → Outcome ℕ
+peekOf size p block = takeOf (length block) p size (numberAt size p block)
+
 -- The part that a take hands out. 01, "When a call is declined": "A declined data part is empty".
 unfoldable pub takenPart : (p n : ℕ) → List ℕ → List ℕ
 takenPart p n block = cond (leb (p + n) (length block)) (take n (drop p block)) []
+
+-- Where a take at p leaves a position that it moves: behind its bytes, or at p where it is short.
+unfoldable pub takenTo : (len p n : ℕ) → ℕ
+takenTo len p n = cond (leb (p + n) len) (p + n) p
