@@ -4,6 +4,7 @@
 --     own-made        what a slice owns gives what a cursor over it owns, at any position, and is kept
 --     own-buf         what a cursor owns gives what its slice owns, and is kept: both are Copy
 --     own-moved       what a cursor owns is what it owns at another position
+--     lies-in, room-of     a local that holds a cursor can be lent, and once it is back, it is freed
 --     opens-cursor, closes-cursor     the borrow of a cursor that is lent is opened, and closed at another position
 -- The laws take `Given`. The rest assumes nothing.
 use mathlib.Core.Path.{_≡_, refl}
@@ -17,14 +18,15 @@ use mir.Syntax.{Lifetime, named, erased, w64}
 use mir.Val.{Val, WT, hasTy}
 use base.Logic.{ent, sep}
 use base.Stored.{Gv}
-use base.Fml.{Lft, Share, GName, Fml, fat, flft, fobs, fauth, fbor, fobor}
+use base.Fml.{Lft, Share, GName, Fml, fsep, fat, froom, flft, fobs, fauth, fbor, fobor}
 use prog.Wp.{Heap}
 use ghost.Atoms.{Atoms, sem}
-use types.Kit.{Given, Item, Goal, Soaks, Seq, Step, step, ‵, _⊛_, given, _$_, _∵_, !, qed, by, move, drop, use1, split, learn, fjoin, done}
+use types.Kit.{Given, Item, Goal, Soaks, Seq, Step, step, ‵, _⊛_, given, _$_, _∵_, !, qed, by, move, keep, drop, use1, split, learn, fsplit, fjoin, fpick, fpack, done}
+use types.Run.{forget}
 use types.SemTy.{Body}
 use denote.RattleType.{RattleType}
 use denote.Laws.{Is, Tells, shows}
-use denote.Memory.{cellAt, mem}
+use denote.Memory.{cellAt, partAt, partOf, mem}
 use denote.Plain.{uint-makes}
 use denote.Builtin.{u8, usize}
 use denote.Ref.{RefT, NamedLft}
@@ -101,6 +103,25 @@ module _ (κ : Lft) where
       own-moved pos fits =
           qed W (‵ Own ∷ []) ∵ owned ! usize (Is usize) (uint-makes 𝓤 H A W w64) pos _ (refl, fits) $ move ! (1 ∷ 0 ∷ []) $
           by ! (own-put 𝓤 H A W D L 1 (c .buf, (c .pos, tt)) pos (T′.lowered c))
+
+  -- the cursor c in the local at l
+  abbrev pub Lies : Cur → ℕ → Fml
+  Lies c l = partAt Lent fullShare c l 0
+
+  module _ {M : Type 1} (𝓤 : URA M) (H : Heap 𝓤) (A : Atoms 𝓤) (W : Given 𝓤 H A) where
+    pub lies-in : (c : Cur) (u : Val) (l : ℕ) → ent 𝓤 (sep 𝓤 (sem 𝓤 H A (fat fullShare (T′.mir erased) l 0 u)) (sem 𝓤 H A (Lent .own c (u ∷ [])))) (sem 𝓤 H A (Lies c l))
+    unfolding partOf
+    lies-in c u l =
+        qed W (‵ (fat fullShare (T′.mir erased) l 0 u) ∷ ‵ (Lent .own c (u ∷ [])) ∷ []) {P = sem 𝓤 H A (Lies c l)} (
+        use1 W (‵ (cellAt fullShare (Lent .mir) (u ∷ []) l 0)) (W .laws .at-raw fullShare (T′.mir erased) l 0 u) $ fjoin ! $
+        fpack ! (List Val) (λ us. fsep (cellAt fullShare (Lent .mir) us l 0) (Lent .own c us)) (u ∷ []) $ done !)
+
+    pub room-of : (c : Cur) (l : ℕ) → ent 𝓤 (sem 𝓤 H A (Lies c l)) (sem 𝓤 H A (froom (T′.mir erased) l 0))
+    unfolding partOf
+    room-of c l =
+        qed W (‵ (Lies c l) ∷ []) {P = sem 𝓤 H A (froom (T′.mir erased) l 0)} (fpick ! (λ vs. fsplit ! $
+        spelt ! Lent (Is Lent) (shows 𝓤 H A Lent) cursor-vals cursor-tells fullShare c vs l 0 $
+        use1 W (‵ (fat fullShare (T′.mir erased) l 0 (T′.lowered c))) (W .laws .raw-at fullShare (T′.mir erased) l 0 (T′.lowered c)) $ forget ! 0 refl $ keep ! (0 ∷ []) $ done !))
 
 module _ {M : Type 1} {𝓤 : URA M} {H : Heap 𝓤} {A : Atoms 𝓤} {K : Type 0} {W : Given 𝓤 H A} {Γ : List (Item 𝓤)} {G : Goal 𝓤 H} where
   pub opens-cursor : K → Soaks G → (κ : Lft) {κₛ : Lft} {q : Share} {γ : GName} (c : Cur) (b o : ℕ)

@@ -1,3 +1,4 @@
+pub mod AsksWith
 pub mod Cursor
 pub mod Fields
 pub mod NextNumber

@@ -2,10 +2,10 @@
 -- The borrow is opened, the cursor is taken apart, the number is taken, `pos_after` says where the position goes, and the borrow is closed there.
 --     taking          the contract of the function that takes a number of `size` bytes
 --     moving          the contract of the function walked
---     code            the MIR, over the called function's name and `size`
---     next-number     a function with this MIR meets `moving`
+--     code            the MIR, over the called function's name and the count that `pos_after` is passed
+--     next-number     a function with this MIR meets `moving`, where the position moves by as many bytes as the number has
 -- Assumes nothing.
-use mathlib.Core.Path.{_≡_, refl, ap}
+use mathlib.Core.Path.{_≡_, refl, ap, _∙_}
 use Prim.Native.Nat.{ℕ, _<_, _^_}
 use mathlib.Core.List.{List, [], _∷_}
 use lib.Dec.{T as Holds, ltb, lit<}
@@ -72,7 +72,7 @@ abbrev at-field : ℕ → Place
 at-field k = place 1 (deref (T′.mir erased) ∷ field k ∷ [])
 
 abbrev code : Name → ℕ → Fn
-code taker size = record {
+code taker count = record {
   lifetimes = 2;
   outlives = (1, 0) ∷ [];
   params = 1;
@@ -86,7 +86,7 @@ code taker size = record {
   body = seq (assign (place 2 []) (rvOpd (copy (at-field 0))))
       (seq (assign (place 3 []) (rvOpd (copy (at-field 1))))
       (seq (call taker (copy (place 2 []) ∷ copy (place 3 []) ∷ []) (place 4 []))
-      (seq (call pos-after-def.name (copy (place 2 []) ∷ copy (place 3 []) ∷ int w64 size ∷ []) (place 5 []))
+      (seq (call pos-after-def.name (copy (place 2 []) ∷ copy (place 3 []) ∷ int w64 count ∷ []) (place 5 []))
       (seq (assign (at-field 1) (rvOpd (copy (place 5 []))))
       (seq (assign (place 0 []) (rvOpd (copy (place 4 [])))) return)))));
 }
@@ -94,7 +94,7 @@ code taker size = record {
 abbrev stayed : Stays (next-u8.ended .signature .params) (next-u8.ended .kept)
 stayed = (stay-ref (0 ∷ []) tt lent, tt)
 
-module _ {M : Type 1} (𝓤 : URA M) (H : Heap 𝓤) (A : Atoms 𝓤) (W : Given 𝓤 H A) (mem″ : Memory → SProp 𝓤) (run : Routine → Fun 𝓤) (taker : Name) (size : ℕ) (small : Holds (ltb size (2 ^ 64)))
+module _ {M : Type 1} (𝓤 : URA M) (H : Heap 𝓤) (A : Atoms 𝓤) (W : Given 𝓤 H A) (mem″ : Memory → SProp 𝓤) (run : Routine → Fun 𝓤) (taker : Name) (size count : ℕ) (same : count ≡ size) (small : Holds (ltb count (2 ^ 64)))
     (κ κ′ : Lft) (q q′ : Share) (bounds : AllOutlive 2 (next-u8.signature .outlives) (κ, (κ′, tt))) (b o : ℕ) (γ : GName) (c : Cur) where
   abbrev x : RefT Cur × Unit {0}
   x = (record { ptr = (b, o); name = γ; now = c }, tt)
@@ -109,7 +109,7 @@ module _ {M : Type 1} (𝓤 : URA M) (H : Heap 𝓤) (A : Atoms 𝓤) (W : Given
   Number r = peekedOutcome r ≡ peekOf size (c .pos) (bytes c)
 
   abbrev After : ℕ → Type 0
-  After p = p ≡ takenTo (length (bytes c)) (c .pos) size
+  After p = p ≡ takenTo (length (bytes c)) (c .pos) count
 
   -- what there is at exit, with the answer r and the position p
   abbrev Left : Peeked → Val → ℕ → List (Item 𝓤)
@@ -119,15 +119,15 @@ module _ {M : Type 1} (𝓤 : URA M) (H : Heap 𝓤) (A : Atoms 𝓤) (W : Given
   exits : (r : Peeked) (u : Val) (p : ℕ) → Number r → After p → ent 𝓤 (⋆ 𝓤 H A (Left r u p)) (Post u)
   exits r u p e e′ =
       qed W (Left r u p) ∵
-      suffices ! _ (ends-at 𝓤 H A next-u8.ended stayed (moving 𝓤 size) W (((κ, (κ′, tt)), (q, (q′, tt)), bounds, x, vals), tt) u r (movedTo c p, tt) (tt, tt)) $ says ! (e, ap (movedTo c) e′) $
+      suffices ! _ (ends-at 𝓤 H A next-u8.ended stayed (moving 𝓤 size) W (((κ, (κ′, tt)), (q, (q′, tt)), bounds, x, vals), tt) u r (movedTo c p, tt) (tt, tt)) $ says ! (e, ap (movedTo c) (e′ ∙ ap (takenTo (length (bytes c)) (c .pos)) same)) $
       move ! (2 ∷ 3 ∷ []) $ join ! $ frame ! $ feqI ! (List Val) (vptr b o ∷ []) (vptr b o ∷ []) refl $ fjoin3 ! $ nothing ! $ move ! (1 ∷ 0 ∷ []) $ fjoin ! $ frame ! $ done !
 
   module _ (C : Calls 𝓤 H) (Λ : Loops 𝓤 H) (fm : FmC 𝓤 H (W .laws) C)
       (known : Triple 𝓤 (C taker) (tripleOf 𝓤 H A peek-u8.signature (closing 𝓤 H A peek-u8.ended (taking 𝓤 size))))
       (known′ : Triple 𝓤 (C pos-after-def.name) (tripleOf 𝓤 H A pos-after.signature (pos-after.spec 𝓤 H A mem″ run))) where
-    walk : ent 𝓤 (onEntry 𝓤 H A next-u8.signature (κ, (κ′, tt)) (q, (q′, tt)) x vals) (WpFn 𝓤 H C Λ (code taker size) (vptr b o ∷ []) Post)
+    walk : ent 𝓤 (onEntry 𝓤 H A next-u8.signature (κ, (κ′, tt)) (q, (q′, tt)) x vals) (WpFn 𝓤 H C Λ (code taker count) (vptr b o ∷ []) Post)
     walk =
-        qed W ((‵ (flft κ q) ⊛ ‵ (flft κ′ q′) ⊛ ‵ ftrue) ∷ ‵ (owns (MutRef (named 0) κ (Lent κ′) ∷ []) x vals) ∷ []) ∵ enter ! C Λ (code taker size) (vptr b o ∷ []) _ $
+        qed W ((‵ (flft κ q) ⊛ ‵ (flft κ′ q′) ⊛ ‵ ftrue) ∷ ‵ (owns (MutRef (named 0) κ (Lent κ′) ∷ []) x vals) ∷ []) ∵ enter ! C Λ (code taker count) (vptr b o ∷ []) _ $
         alloc1 ! (λ l₀. alloc1 ! (λ l₁. alloc1 ! (λ l₂. alloc1 ! (λ l₃. alloc1 ! (λ l₄. alloc1 ! (λ l₅. alloc0 ! $ params1 ! $ pass1 ! (init ! 8 refl (tt, tt)) $ pass0 ! $
         move ! (13 ∷ []) $ fsplit ! $ fsplit3 ! $ drop ! $ move ! (15 ∷ []) $ split ! $ move ! (2 ∷ 3 ∷ 0 ∷ []) $
         opens-cursor ! tt κ′ c b o (λ is.
@@ -142,8 +142,8 @@ module _ {M : Type 1} (𝓤 : URA M) (H : Heap 𝓤) (A : Atoms 𝓤) (W : Given
         land ! (from ! (stop !)) (init ! 10 refl (EL.lawful P.the-type P′.the-laws 𝓤 H A W tt .typed r _ is-r .0)) $
         -- [the answer; 'a's token; what the cursor owns; its cell; the open borrow; obs; auth; …; _5; …; _4; …; _3; …; _2; …; _1; …; room for _0; …]
         move ! (2 ∷ []) $ use1 W (‵ (Bytes κ′ .own (c .buf) (slice-of (c .buf) ∷ [])) ⊛ ‵ (Cursor κ′ .own c (T′.lowered c ∷ []))) (own-buf κ′ 𝓤 H A W c) $ split ! $ move ! (0 ∷ 3 ∷ []) $
-        calls-told 𝓤 H A (pos-after.clauses 𝓤 H A mem″ run) κ′ q′ (c .buf, (c .pos, (size, tt))) (slice-of (c .buf) ∷ [], (vint w64 (c .pos) ∷ [], (vint w64 size ∷ [], tt))) tt
-        ! fm known′ (id⊢ 𝓤 _) (two-numbers 𝓤 H A W w64 (c .pos) (wt .1 .1 .0 .fits) w64 size (lit< small)) After (λ p e. id⊢ 𝓤 _)
+        calls-told 𝓤 H A (pos-after.clauses 𝓤 H A mem″ run) κ′ q′ (c .buf, (c .pos, (count, tt))) (slice-of (c .buf) ∷ [], (vint w64 (c .pos) ∷ [], (vint w64 count ∷ [], tt))) tt
+        ! fm known′ (id⊢ 𝓤 _) (two-numbers 𝓤 H A W w64 (c .pos) (wt .1 .1 .0 .fits) w64 count (lit< small)) After (λ p e. id⊢ 𝓤 _)
         (and-then ! (load ! (from ! (stop !)) (look ! 14 refl)) (and-then ! (load ! (from ! (stop !)) (look ! 12 refl)) (and-then ! (lit ! small) (no-more !)))) (λ v p e′ is-p.
         land ! (from ! (stop !)) (init ! 9 refl (uint-lawful 𝓤 H A W w64 .typed p _ is-p .0)) $ rewrite ! 9 (λ (w : Val). ‵ (fat fullShare (tyInt w64) l₅ 0 w)) (ap only (is-p .0)) refl $
         -- [the new position's; 'a's token; what the cursor owns; the answer; the cell; the open borrow; obs; auth; …; _5; …; _4; …; _3; …; _2; …; _1; …; room for _0; …]
@@ -155,12 +155,12 @@ module _ {M : Type 1} (𝓤 : URA M) (H : Heap 𝓤) (A : Atoms 𝓤) (W : Given
         move ! (17 ∷ 18 ∷ []) $ free1 ! $ move ! (15 ∷ 16 ∷ []) $ free1 ! $ move ! (13 ∷ 14 ∷ []) $ free1 ! $ move ! (11 ∷ 12 ∷ []) $ free1 ! $ move ! (9 ∷ 10 ∷ []) $ free1 ! $ move ! (7 ∷ 8 ∷ []) $ free1 ! $ free0 ! $
         keep ! (0 ∷ 1 ∷ 2 ∷ 4 ∷ 5 ∷ []) $ by ! (exits r u p e e′))))))))))
 
-module _ {M : Type 1} (𝓤 : URA M) (H : Heap 𝓤) (𝓜 : Model 𝓤 H) (𝓖 : GhostRules 𝓤 H) (𝓡 : Running 𝓤 H 𝓜) (env : Env) (key : Name) (taker : Name) (size : ℕ) where
-  pub next-number : Holds (ltb size (2 ^ 64)) → Closed 𝓤 H (tables 𝓤 H 𝓜 𝓡 env .C) (tables 𝓤 H 𝓜 𝓡 env .Λ) key (code taker size)
+module _ {M : Type 1} (𝓤 : URA M) (H : Heap 𝓤) (𝓜 : Model 𝓤 H) (𝓖 : GhostRules 𝓤 H) (𝓡 : Running 𝓤 H 𝓜) (env : Env) (key taker : Name) (size count : ℕ) where
+  pub next-number : count ≡ size → Holds (ltb count (2 ^ 64)) → Closed 𝓤 H (tables 𝓤 H 𝓜 𝓡 env .C) (tables 𝓤 H 𝓜 𝓡 env .Λ) key (code taker count)
       → Triple 𝓤 (tables 𝓤 H 𝓜 𝓡 env .C taker) (tripleOf 𝓤 H (𝓖 .A) peek-u8.signature (closing 𝓤 H (𝓖 .A) peek-u8.ended (taking 𝓤 size)))
       → Triple 𝓤 (tables 𝓤 H 𝓜 𝓡 env .C pos-after-def.name) (tripleOf 𝓤 H (𝓖 .A) pos-after.signature (pos-after.spec 𝓤 H (𝓖 .A) (𝓜 .mem) (𝓡 .run)))
       → Meets 𝓤 H (𝓖 .A) next-u8.signature (tables 𝓤 H 𝓜 𝓡 env .C key) (closing 𝓤 H (𝓖 .A) next-u8.ended (moving 𝓤 size))
-  next-number small unfolded known known′ =
-      by-walk 𝓤 H 𝓜 𝓖 𝓡 next-u8.ended stayed (moving 𝓤 size) env key (code taker size) unfolded (goes-ref 𝓤 H (𝓖 .A) (givenOf 𝓤 H 𝓜 𝓖) 2 0 tt lent, tt)
+  next-number same small unfolded known known′ =
+      by-walk 𝓤 H 𝓜 𝓖 𝓡 next-u8.ended stayed (moving 𝓤 size) env key (code taker count) unfolded (goes-ref 𝓤 H (𝓖 .A) (givenOf 𝓤 H 𝓜 𝓖) 2 0 tt lent, tt)
       (λ κs. (ptr-vals, tt)) (λ κs. (mut-tells (named 0) (κs .0) (Lent (κs .1 .0)), tt)) (λ fm κs qs bounds a g are.
-      via 𝓤 _ (fst∗ 𝓤 _ (emp 𝓤)) (walk 𝓤 H (𝓖 .A) (givenOf 𝓤 H 𝓜 𝓖) (𝓜 .mem) (𝓡 .run) taker size small (κs .0) (κs .1 .0) (qs .0) (qs .1 .0) bounds (a .0 .ptr .0) (a .0 .ptr .1) (a .0 .name) (a .0 .now) _ _ fm known known′))
+      via 𝓤 _ (fst∗ 𝓤 _ (emp 𝓤)) (walk 𝓤 H (𝓖 .A) (givenOf 𝓤 H 𝓜 𝓖) (𝓜 .mem) (𝓡 .run) taker size count same small (κs .0) (κs .1 .0) (qs .0) (qs .1 .0) bounds (a .0 .ptr .0) (a .0 .ptr .1) (a .0 .name) (a .0 .now) _ _ fm known known′))

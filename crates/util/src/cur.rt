@@ -169,6 +169,13 @@ impl<'a> Cur<'a> {
         nth_u16_of(self.buf, self.pos, n)
     }
 
+    // Whether n bytes follow the position, and where they end. The position stays.
+    pub fn peek_n_u8s(self, n: usize) -> Taken
+        ensures { λ r. ⌜ takenOutcome r ≡ takeOf (length (bytes (self .entry))) (self .entry .pos) n (self .entry .pos + n) ⌝ }
+    {
+        take_at(self.buf, self.pos, n)
+    }
+
     // The number of 1 byte at the position, which moves behind it. A short take leaves the position.
     pub fn next_u8(&mut self) -> Peeked
         ensures { λ r. ⌜ (peekedOutcome r ≡ peekOf 1 (now (self .entry) .pos) (bytes (now (self .entry)))) × (now (self .exit) ≡ takenOn (now (self .entry)) 1) ⌝ }
