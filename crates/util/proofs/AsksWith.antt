@@ -19,7 +19,7 @@ use prog.Wp.{Heap, Calls, Loops, WpFn, Closed}
 use ghost.Atoms.{Atoms}
 use contract.Monad.{fact}
 use contract.Running.{GhostRules, Running, givenOf, tables}
-use types.Kit.{Given, ‵, _⊛_, ⋆, _$_, _∵_, !, qed, by, move, drop, use0, use1, split, fsplit, fjoin, suffices, frame, done}
+use types.Kit.{Given, ‵, _⊛_, ⋆, _$_, _∵_, !, qed, by, move, drop, use0, fsplit, fjoin, suffices, frame, done}
 use types.Part.{whole, sub, look-in}
 use types.Run.{look, init, forget, stop, fld, from, load, of-opd, and-then, no-more, assigns, land, returns, enter, alloc1, alloc0, params1, pass1, pass0, free1, free0}
 use sound.WpLaws.{FmC}
@@ -40,7 +40,7 @@ use denote.Triple.Walked.{says, Stays, stay-none, walkOf, goes-none, ends-at}
 use denote.Exit.{yes}
 use Rattle.util.specs.Cursor.{bytes}
 use Rattle.util.specs.declared.cur.Cur.{Cur}
-use Rattle.util.proofs.Cursor.{Bytes, Cursor, slice-of, own-buf, cursor-typed, cursor-vals, cursor-tells}
+use Rattle.util.proofs.Cursor.{Cursor, slice-of, gives-buf, cursor-typed, cursor-vals, cursor-tells}
 use Rattle.util.proofs.Walks.{by-walk, callee, calls-told, one-number, two-numbers}
 use Rattle.util.proofs.cur.Cur.Laws as T′
 
@@ -78,7 +78,8 @@ module _ (w : Width) (R : RattleType) (τ : Ty) where
     abbrev pub asking : Clauses 𝓤 Asking
     asking κs a = record { ghost = Unit {0}; requires = λ _. emp 𝓤; ensures = λ _ r _. fact 𝓤 (Φ (bytes (a .0)) (a .0 .pos) (a .1 .0) r) }
 
-    module _ (H : Heap 𝓤) (A : Atoms 𝓤) (W : Given 𝓤 H A) (typed : (r : R .Denot) (u : Val) → Is R r (u ∷ []) → Holds (hasTy τ u) × WT u) (κ : Lft) (q : Share) (c : Cur)
+    module _ (H : Heap 𝓤) (A : Atoms 𝓤) (W : Given 𝓤 H A) (typed : (r : R .Denot) (u : Val) → Is R r (u ∷ []) → Holds (hasTy τ u) × WT u) (κ : Lft)
+        (q : Share) (c : Cur)
         (n : ℕ) (n-fits : n < 2 ^ bits w) where
       abbrev mach : Val
       mach = T′.lowered c
@@ -86,36 +87,50 @@ module _ (w : Width) (R : RattleType) (τ : Ty) where
       abbrev vals : Vals (Asking .signature) (κ, tt)
       vals = (mach ∷ [], (vint w n ∷ [], tt))
 
+      -- what the function called is passed
+      abbrev passed : Vals (Asked .signature) (κ, tt)
+      passed = (slice-of (c .buf) ∷ [], (vint w64 (c .pos) ∷ [], (vint w n ∷ [], tt)))
+
       abbrev Own : Fml
       Own = Cursor κ .own c (mach ∷ [])
 
       abbrev Post : Val → SProp 𝓤
       Post = walkOf 𝓤 H A Asking stayed asking .post (((κ, tt), (q, tt), tt, (c, (n, tt)), vals), tt)
 
-      exits : (r : R .Denot) (u : Val) → Φ (bytes c) (c .pos) n r → ent 𝓤 (⋆ 𝓤 H A (‵ (R .own r (u ∷ [])) ∷ (‵ (flft κ q) ⊛ ‵ ftrue) ∷ ‵ Own ∷ [])) (Post u)
+      exits : (r : R .Denot) (u : Val) → Φ (bytes c) (c .pos) n r
+          → ent 𝓤 (⋆ 𝓤 H A (‵ (R .own r (u ∷ [])) ∷ (‵ (flft κ q) ⊛ ‵ ftrue) ∷ ‵ Own ∷ [])) (Post u)
       exits r u e =
           qed W (‵ (R .own r (u ∷ [])) ∷ (‵ (flft κ q) ⊛ ‵ ftrue) ∷ ‵ Own ∷ []) ∵
-          suffices ! _ (ends-at 𝓤 H A Asking stayed asking W (((κ, tt), (q, tt), tt, (c, (n, tt)), vals), tt) u r (tt, (tt, tt)) (tt, (tt, tt))) $ says ! e $
-          move ! (1 ∷ []) $ frame ! $ use0 W (‵ (owns (UInt w ∷ []) (n, tt) (vint w n ∷ [], tt))) (one-number 𝓤 H A W w n n-fits) $ move ! (2 ∷ 0 ∷ []) $ fjoin ! $ frame ! $ done !
+          suffices ! _ (ends-at 𝓤 H A Asking stayed asking W (((κ, tt), (q, tt), tt, (c, (n, tt)), vals), tt) u r (tt, (tt, tt)) (tt, (tt, tt))) $
+          says ! e $
+          move ! (1 ∷ []) $ frame ! $ use0 W (‵ (owns (UInt w ∷ []) (n, tt) (vint w n ∷ [], tt))) (one-number 𝓤 H A W w n n-fits) $
+          move ! (2 ∷ 0 ∷ []) $ fjoin ! $ frame ! $ done !
 
       module _ (C : Calls 𝓤 H) (Λ : Loops 𝓤 H) (fm : FmC 𝓤 H (W .laws) C) (called : Name)
           (known : Triple 𝓤 (C called) (tripleOf 𝓤 H A (Asked .signature) (closing 𝓤 H A Asked asked))) where
-        walk : Is (Cursor κ) c (mach ∷ []) → ent 𝓤 (onEntry 𝓤 H A (Asking .signature) (κ, tt) (q, tt) (c, (n, tt)) vals) (WpFn 𝓤 H C Λ (code called) (mach ∷ vint w n ∷ []) Post)
+        walk : Is (Cursor κ) c (mach ∷ []) → ent 𝓤 (onEntry 𝓤 H A (Asking .signature) (κ, tt) (q, tt) (c, (n, tt)) vals)
+            (WpFn 𝓤 H C Λ (code called) (mach ∷ vint w n ∷ []) Post)
         walk is =
             let wt = cursor-typed κ 𝓤 H A W (named 0) c mach is in
-            qed W ((‵ (flft κ q) ⊛ ‵ ftrue) ∷ ‵ (owns (Cursor κ ∷ UInt w ∷ []) (c, (n, tt)) vals) ∷ []) ∵ enter ! C Λ (code called) (mach ∷ vint w n ∷ []) _ $
-            alloc1 ! (λ l₀. alloc1 ! (λ l₁. alloc1 ! (λ l₂. alloc1 ! (λ l₃. alloc1 ! (λ l₄. alloc0 ! $ params1 ! $ pass1 ! (init ! 6 refl wt) $ pass1 ! (init ! 4 refl (uint-lawful 𝓤 H A W w .typed n (vint w n ∷ []) (refl, n-fits) .0)) $ pass0 ! $
-            assigns ! (of-opd ! (load ! (from ! (fld ! refl (stop !))) (look-in ! 6 (sub ! 0 refl (whole !))))) (from ! (stop !)) (init ! 2 refl (tt, wt .1 .0)) $
-            assigns ! (of-opd ! (load ! (from ! (fld ! refl (stop !))) (look-in ! 6 (sub ! 1 refl (whole !))))) (from ! (stop !)) (init ! 0 refl (tt, wt .1 .1 .0)) $
+            qed W ((‵ (flft κ q) ⊛ ‵ ftrue) ∷ ‵ (owns (Cursor κ ∷ UInt w ∷ []) (c, (n, tt)) vals) ∷ []) ∵
+            enter ! C Λ (code called) (mach ∷ vint w n ∷ []) _ $
+            alloc1 ! (λ l₀. alloc1 ! (λ l₁. alloc1 ! (λ l₂. alloc1 ! (λ l₃. alloc1 ! (λ l₄. alloc0 ! $ params1 ! $ pass1 ! (init ! 6 refl wt) $
+            pass1 ! (init ! 4 refl (uint-lawful 𝓤 H A W w .typed n (vint w n ∷ []) (refl, n-fits) .0)) $ pass0 ! $
+            assigns ! (of-opd ! (load ! (from ! (fld ! refl (stop !))) (look-in ! 6 (sub ! 0 refl (whole !))))) (from ! (stop !))
+            (init ! 2 refl (tt, wt .1 .0)) $
+            assigns ! (of-opd ! (load ! (from ! (fld ! refl (stop !))) (look-in ! 6 (sub ! 1 refl (whole !))))) (from ! (stop !))
+            (init ! 0 refl (tt, wt .1 .1 .0)) $
             -- [_4; …; _3; …; _2; …; _1; …; room for _0; …; the token; what the cursor and n own]
-            move ! (11 ∷ []) $ fsplit ! $ move ! (1 ∷ []) $ drop ! $ use1 W (‵ (Bytes κ .own (c .buf) (slice-of (c .buf) ∷ [])) ⊛ ‵ Own) (own-buf κ 𝓤 H A W c) $ split ! $ move ! (0 ∷ 12 ∷ []) $
-            calls-told 𝓤 H A asked κ q (c .buf, (c .pos, (n, tt))) (slice-of (c .buf) ∷ [], (vint w64 (c .pos) ∷ [], (vint w n ∷ [], tt))) tt
+            move ! (11 ∷ []) $ fsplit ! $ move ! (1 ∷ []) $ drop ! $ gives-buf ! κ c $ move ! (0 ∷ 12 ∷ []) $
+            calls-told 𝓤 H A asked κ q (c .buf, (c .pos, (n, tt))) passed tt
             ! fm known (id⊢ 𝓤 _) (two-numbers 𝓤 H A W w64 (c .pos) (wt .1 .1 .0 .fits) w n n-fits) (Φ (bytes c) (c .pos) n) (λ r e. id⊢ 𝓤 _)
-            (and-then ! (load ! (from ! (stop !)) (look ! 4 refl)) (and-then ! (load ! (from ! (stop !)) (look ! 2 refl)) (and-then ! (load ! (from ! (stop !)) (look ! 6 refl)) (no-more !)))) (λ u r e is-r.
+            (and-then ! (load ! (from ! (stop !)) (look ! 4 refl)) (and-then ! (load ! (from ! (stop !)) (look ! 2 refl))
+            (and-then ! (load ! (from ! (stop !)) (look ! 6 refl)) (no-more !)))) (λ u r e is-r.
             -- [the answer; the token; what the cursor owns; _4; …; _3; …; _2; …; _1; …; room for _0; …]
             land ! (from ! (stop !)) (init ! 11 refl (typed r u is-r)) $
             returns ! (look ! 11 refl) $ forget ! 3 refl $ forget ! 5 refl $ forget ! 7 refl $ forget ! 9 refl $ forget ! 11 refl $
-            move ! (11 ∷ 12 ∷ []) $ free1 ! $ move ! (9 ∷ 10 ∷ []) $ free1 ! $ move ! (7 ∷ 8 ∷ []) $ free1 ! $ move ! (5 ∷ 6 ∷ []) $ free1 ! $ move ! (3 ∷ 4 ∷ []) $ free1 ! $ free0 ! $ by ! (exits r u e)))))))
+            move ! (11 ∷ 12 ∷ []) $ free1 ! $ move ! (9 ∷ 10 ∷ []) $ free1 ! $ move ! (7 ∷ 8 ∷ []) $ free1 ! $ move ! (5 ∷ 6 ∷ []) $ free1 ! $
+            move ! (3 ∷ 4 ∷ []) $ free1 ! $ free0 ! $ by ! (exits r u e)))))))
 
     module _ (H : Heap 𝓤) (𝓜 : Model 𝓤 H) (𝓖 : GhostRules 𝓤 H) (𝓡 : Running 𝓤 H 𝓜) (env : Env) (key called : Name) where
       pub asks-with : Closed 𝓤 H (tables 𝓤 H 𝓜 𝓡 env .C) (tables 𝓤 H 𝓜 𝓡 env .Λ) key (code called)

@@ -48,19 +48,23 @@ module _ {M : Type 1} (𝓤 : URA M) (H : Heap 𝓤) (𝓜 : Model 𝓤 H) (𝓖
 
   pub by-walk : Closed 𝓤 H (tables 𝓤 H 𝓜 𝓡 env .C) (tables 𝓤 H 𝓜 𝓡 env .Λ) key code
       → AllGo 𝓤 H (𝓖 .A) (givenOf 𝓤 H 𝓜 𝓖) (S .lifetimes) (S .params) (T .kept) hs
-      → (sp : (κs : Lfts (S .lifetimes)) → Spells (typesAt (S .params) κs)) → ((κs : Lfts (S .lifetimes)) → Tellss (typesAt (S .params) κs) (Ises (typesAt (S .params) κs)) (sp κs))
+      → (sp : (κs : Lfts (S .lifetimes)) → Spells (typesAt (S .params) κs))
+      → ((κs : Lfts (S .lifetimes)) → Tellss (typesAt (S .params) κs) (Ises (typesAt (S .params) κs)) (sp κs))
       → (FmC 𝓤 H (givenOf 𝓤 H 𝓜 𝓖 .laws) (tables 𝓤 H 𝓜 𝓡 env .C)
-      → (κs : Lfts (S .lifetimes)) (qs : Shares (S .lifetimes)) (bounds : AllOutlive (S .lifetimes) (S .outlives) κs) (a : Args S κs) (g : c κs a .ghost)
+      → (κs : Lfts (S .lifetimes)) (qs : Shares (S .lifetimes)) (bounds : AllOutlive (S .lifetimes) (S .outlives) κs) (a : Args S κs)
+      (g : c κs a .ghost)
       → Are (typesAt (S .params) κs) (Ises (typesAt (S .params) κs)) a (valss (typesAt (S .params) κs) (sp κs) a)
       → ent 𝓤 (sep 𝓤 (onEntry 𝓤 H (𝓖 .A) S κs qs a (valss (typesAt (S .params) κs) (sp κs) a)) (c κs a .requires g))
-      (run (flat (typesAt (S .params) κs) (valss (typesAt (S .params) κs) (sp κs) a)) (walkOf 𝓤 H (𝓖 .A) T hs c .post ((κs, qs, bounds, a, valss (typesAt (S .params) κs) (sp κs) a), g))))
+      (run (flat (typesAt (S .params) κs) (valss (typesAt (S .params) κs) (sp κs) a))
+      (walkOf 𝓤 H (𝓖 .A) T hs c .post ((κs, qs, bounds, a, valss (typesAt (S .params) κs) (sp κs) a), g))))
       → Meets 𝓤 H (𝓖 .A) S (tables 𝓤 H 𝓜 𝓡 env .C key) (closing 𝓤 H (𝓖 .A) T c)
   unfolding tablesOf
   by-walk unfolded goes sp tells walk =
       let 𝓣 = tablesOf 𝓤 H 𝓜 (tables 𝓤 H 𝓜 𝓡 env) in
       let laws = givenOf 𝓤 H 𝓜 𝓖 .laws in
       entered 𝓤 H (tripleOf 𝓤 H (𝓖 .A) S (closing 𝓤 H (𝓖 .A) T c)) (tables 𝓤 H 𝓜 𝓡 env .C) (tables 𝓤 H 𝓜 𝓡 env .Λ) key code unfolded
-      (walk-meets 𝓤 H (𝓖 .A) T hs (givenOf 𝓤 H 𝓜 𝓖) goes c run (WpFn-mono 𝓤 H laws 𝓣 code) (walked 𝓤 H (𝓖 .A) T hs c run sp tells (walk (fmOf 𝓤 H laws 𝓣))))
+      (walk-meets 𝓤 H (𝓖 .A) T hs (givenOf 𝓤 H 𝓜 𝓖) goes c run (WpFn-mono 𝓤 H laws 𝓣 code)
+      (walked 𝓤 H (𝓖 .A) T hs c run sp tells (walk (fmOf 𝓤 H laws 𝓣))))
 
 abbrev pub callee : (first : Slot 1) (numbers : List (Slot 1)) (result : Slot 1) → Kepts (first ∷ numbers) → Ended
 callee first numbers result kept = record { signature = record { lifetimes = 1; outlives = []; params = first ∷ numbers; result = result }; kept = kept }
@@ -75,7 +79,8 @@ module _ {M : Type 1} (𝓤 : URA M) (H : Heap 𝓤) (A : Atoms 𝓤) (W : Given
       qed W [] ∵ use0 W (‵ (owns (UInt w′ ∷ []) (m, tt) (vint w′ m ∷ [], tt))) (one-number w′ m fits′) $
       owned ! (UInt w) (Is (UInt w)) (uint-makes 𝓤 H A W w) n (vint w n ∷ []) (refl, fits) $ fjoin ! $ done !
 
-module _ {M : Type 1} (𝓤 : URA M) (H : Heap 𝓤) (A : Atoms 𝓤) {first : Slot 1} {numbers : List (Slot 1)} {result : Slot 1} {kept : Kepts (first ∷ numbers)}
+module _ {M : Type 1} (𝓤 : URA M) (H : Heap 𝓤) (A : Atoms 𝓤) {first : Slot 1} {numbers : List (Slot 1)} {result : Slot 1} {kept : Kepts
+    (first ∷ numbers)}
     (c : Clauses 𝓤 (callee first numbers result kept)) where
   abbrev Sᶜ : Signature
   Sᶜ = callee first numbers result kept .signature
@@ -99,14 +104,17 @@ module _ {M : Type 1} (𝓤 : URA M) (H : Heap 𝓤) (A : Atoms 𝓤) {first : S
       pub calls-told : K → FmC 𝓤 H (W .laws) C → Triple 𝓤 (C f) Callee
           → ent 𝓤 (emp 𝓤) (c (κ, tt) a .requires g) → ent 𝓤 (emp 𝓤) (sem 𝓤 H A (owns (typesAt numbers (κ, tt)) (a .1) (vs .1)))
           → (φ : R .Denot → Type 0) → Says φ → Opds K W (raw (Callee .pre to) ∷ Γ) E xs (Callee .args to)
-          → ((u : Val) (r : R .Denot) → φ r → Is R r (u ∷ []) → Seq K W (‵ (R .own r (u ∷ [])) ∷ (‵ (flft κ q) ⊛ ‵ ftrue) ∷ Γ) (lands C Λ E d u rest p))
+          → ((u : Val) (r : R .Denot) → φ r → Is R r (u ∷ []) → Seq K W (‵ (R .own r (u ∷ [])) ∷ (‵ (flft κ q) ⊛ ‵ ftrue) ∷ Γ)
+          (lands C Λ E d u rest p))
           → Seq K W (‵ (typeAt first (κ, tt) .own (a .0) (vs .0)) ∷ (‵ (flft κ q) ⊛ ‵ ftrue) ∷ Γ) (runs C Λ E (seq (call f xs d) rest) p)
       calls-told k fm known asked own-numbers φ says opds next =
           use0 W (‵ (owns (typesAt numbers (κ, tt)) (a .1) (vs .1))) own-numbers $ move k (1 ∷ 0 ∷ []) $ fjoin k $ move k (1 ∷ 0 ∷ []) $
           use2 W (raw (Callee .pre to))
           (qed W ((‵ (flft κ q) ⊛ ‵ ftrue) ∷ ‵ (owns (typesAt (first ∷ numbers) (κ, tt)) a vs) ∷ []) ∵ join ! $ frame ! $ by ! asked) $
           calls-at k fm Callee known to opds (λ u.
-          use1 W (later (some (λ (r : R .Denot). ((‵ (flft κ q) ⊛ ‵ ftrue) ⊛ ‵ (R .own r (u ∷ []))) ⊛ raw (ensured 𝓤 H A (callee first numbers result kept) c (κ, tt) a g r)))) (id⊢ 𝓤 _) $
+          use1 W (later (some (λ (r : R .Denot). ((‵ (flft κ q) ⊛ ‵ ftrue) ⊛ ‵ (R .own r (u ∷ []))) ⊛ raw
+          (ensured 𝓤 H A (callee first numbers result kept) c (κ, tt) a g r)))) (id⊢ 𝓤 _) $
           await k tt $ pick k (λ r. split k $ move k (1 ∷ []) $
-          use1 W (raw (fact 𝓤 (φ r))) (exE 𝓤 _ (λ ws. via 𝓤 _ (snd∗ 𝓤 (sem 𝓤 H A (lasts (callee first numbers result kept) (κ, tt) a ws)) _) (says r _))) $
+          use1 W (raw (fact 𝓤 (φ r))) (exE 𝓤 _ (λ ws. via 𝓤 _ (snd∗ 𝓤 (sem 𝓤 H A (lasts (callee first numbers result kept) (κ, tt) a ws)) _)
+          (says r _))) $
           heard k (φ r) (λ e. split k $ move k (1 ∷ []) $ peeks k R (Is R) (shows 𝓤 H A R) r (u ∷ []) (next u r e))))

@@ -126,7 +126,8 @@ module _ {M : Type 1} (𝓤 : URA M) (H : Heap 𝓤) (A : Atoms 𝓤) (W : Given
   exits t u e =
       qed W (‵ (flft κ q) ∷ ‵ ftrue ∷ ‵ (Bytes κ .own t (u ∷ [])) ∷ ‵ Own ∷ []) ∵
       suffices ! _
-      (ends-at 𝓤 H A part-at.ended stayed (part-at.clauses 𝓤 H A mem run) W (((κ, tt), (q, tt), tt, x, at), tt) u t (tt, (tt, (tt, tt))) (tt, (tt, (tt, tt)))) $
+      (ends-at 𝓤 H A part-at.ended stayed (part-at.clauses 𝓤 H A mem run) W (((κ, tt), (q, tt), tt, x, at), tt) u t (tt, (tt, (tt, tt)))
+      (tt, (tt, (tt, tt)))) $
       says ! e $
       join ! $ frame ! $ nothing ! $ owned ! usize (Is usize) (uint-makes 𝓤 H A W w64) n _ (refl, n-fits) $ fjoin ! $
       owned ! usize (Is usize) (uint-makes 𝓤 H A W w64) p _ (refl, p-fits) $ fjoin ! $ move ! (2 ∷ 0 ∷ []) $ fjoin ! $ frame ! $ done !
@@ -137,12 +138,14 @@ module _ {M : Type 1} (𝓤 : URA M) (H : Heap 𝓤) (A : Atoms 𝓤) (W : Given
     walk : Is (Bytes κ) s (slice-of s ∷ [])
         → ent 𝓤 (onEntry 𝓤 H A part-at.signature (κ, tt) (q, tt) x at) (WpFn 𝓤 H C Λ code.function (slice-of s ∷ vint w64 p ∷ vint w64 n ∷ []) Post)
     walk is =
-        qed W ((‵ (flft κ q) ⊛ ‵ ftrue) ∷ ‵ (owns (Bytes κ ∷ usize ∷ usize ∷ []) x at) ∷ []) ∵ enter ! C Λ code.function (slice-of s ∷ vint w64 p ∷ vint w64 n ∷ []) _ $
+        qed W ((‵ (flft κ q) ⊛ ‵ ftrue) ∷ ‵ (owns (Bytes κ ∷ usize ∷ usize ∷ []) x at) ∷ []) ∵
+        enter ! C Λ code.function (slice-of s ∷ vint w64 p ∷ vint w64 n ∷ []) _ $
         alloc1 ! (λ l₀. alloc1 ! (λ l₁. alloc1 ! (λ l₂. alloc1 ! (λ l₃. alloc1 ! (λ l₄. alloc1 ! (λ l₅. alloc1 ! (λ l₆. alloc0 ! $ params1 ! $
         pass1 ! (init ! 10 refl (shr-slice-lawful 𝓤 H A W (named 0) κ u8 .typed s (slice-of s ∷ []) is .0)) $
         pass1 ! (init ! 8 refl (tt, record { fits = p-fits })) $ pass1 ! (init ! 6 refl (tt, record { fits = n-fits })) $ pass0 ! $
         -- [_6; …; _5; …; _4; …; _3; …; _2; …; _1; …; room for _0; …; the token; what s and the numbers own]
-        move ! (15 ∷ []) $ fsplit ! $ move ! (1 ∷ []) $ drop ! $ use1 W (‵ Own ⊛ ‵ Own) (shr-slice-copy 𝓤 H A W (named 0) κ u8 .twice s (slice-of s ∷ [])) $ split ! $ move ! (0 ∷ 16 ∷ []) $
+        move ! (15 ∷ []) $ fsplit ! $ move ! (1 ∷ []) $ drop ! $
+        use1 W (‵ Own ⊛ ‵ Own) (shr-slice-copy 𝓤 H A W (named 0) κ u8 .twice s (slice-of s ∷ [])) $ split ! $ move ! (0 ∷ 16 ∷ []) $
         calls-told 𝓤 H A (from-buf-pos.clauses 𝓤 H A mem run) κ q (s, (p, tt)) (slice-of s ∷ [], (vint w64 p ∷ [], tt)) tt
         ! fm known-from (id⊢ 𝓤 _) (one-number 𝓤 H A W w64 p p-fits) Made (λ r e. id⊢ 𝓤 _)
         (and-then ! (load ! (from ! (stop !)) (look ! 12 refl)) (and-then ! (load ! (from ! (stop !)) (look ! 10 refl)) (no-more !))) (λ u r e is-r.
@@ -189,8 +192,11 @@ part-at-spec 𝓤 H 𝓜 𝓖 𝓡 =
     let W = givenOf 𝓤 H 𝓜 𝓖 in
     by-walk 𝓤 H 𝓜 𝓖 𝓡 part-at.ended stayed (part-at.clauses 𝓤 H A (𝓜 .mem) (𝓡 .run)) code.env #part-at code.function (code.unfolded 𝓤 H 𝓜 𝓡)
     (goes-none-slice 𝓤 H A W 1 (0 ∷ []) tt (plain (λ _. u8)) yes, (goes-none 𝓤 H A W 1 (λ _. usize) yes (λ κs x f. refl), (goes-none 𝓤 H A W 1 (λ _. usize) yes (λ κs x f. refl), tt)))
-    (λ κs. (slice-vals, (uint-vals w64, (uint-vals w64, tt)))) (λ κs. (shr-slice-tells (named 0) (κs .0) u8, (uint-tells w64, (uint-tells w64, tt)))) (λ fm κs qs bounds a g are.
+    (λ κs. (slice-vals, (uint-vals w64, (uint-vals w64, tt)))) (λ κs. (shr-slice-tells (named 0) (κs .0) u8, (uint-tells w64, (uint-tells w64, tt))))
+    (λ fm κs qs bounds a g are.
     via 𝓤 _ (fst∗ 𝓤 _ (emp 𝓤)) (walk 𝓤 H A W (𝓜 .mem) (𝓡 .run) (κs .0) (qs .0) (a .0) (a .1 .0) (a .1 .1 .0) (are .1 .0 .1) (are .1 .1 .0 .1) _ _ fm
-    (cited 𝓤 H (tripleOf 𝓤 H A from-buf-pos.signature (from-buf-pos.spec 𝓤 H A (𝓜 .mem) (𝓡 .run))) 𝓜 𝓡 code.env from-buf-pos-def.name from-buf-pos-def.routine code.calls-util·cur·Cur·from-buf-pos (from-buf-pos-thm.met 𝓤 H 𝓜 𝓖 𝓡))
-    (cited 𝓤 H (Next 𝓤 H A (𝓜 .mem) (𝓡 .run)) 𝓜 𝓡 code.env next-n-u8s-def.name next-n-u8s-def.routine code.calls-util·cur·Cur·next-n-u8s (next-n-u8s-thm.met 𝓤 H 𝓜 𝓖 𝓡))
+    (cited 𝓤 H (tripleOf 𝓤 H A from-buf-pos.signature (from-buf-pos.spec 𝓤 H A (𝓜 .mem)
+    (𝓡 .run))) 𝓜 𝓡 code.env from-buf-pos-def.name from-buf-pos-def.routine code.calls-util·cur·Cur·from-buf-pos (from-buf-pos-thm.met 𝓤 H 𝓜 𝓖 𝓡))
+    (cited 𝓤 H (Next 𝓤 H A (𝓜 .mem) (𝓡 .run)) 𝓜 𝓡 code.env next-n-u8s-def.name next-n-u8s-def.routine code.calls-util·cur·Cur·next-n-u8s
+    (next-n-u8s-thm.met 𝓤 H 𝓜 𝓖 𝓡))
     (are .0)))

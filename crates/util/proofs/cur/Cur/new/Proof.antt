@@ -41,7 +41,8 @@ use Rattle.util.proofs.cur.Cur.new.Code as code
 abbrev stayed : Stays (new.ended .signature .params) (new.ended .kept)
 stayed = (stay-none-slice (0 ∷ []) tt (plain (λ _. u8)) yes, tt)
 
-module _ {M : Type 1} (𝓤 : URA M) (H : Heap 𝓤) (A : Atoms 𝓤) (W : Given 𝓤 H A) (mem : Memory → SProp 𝓤) (run : Routine → Fun 𝓤) (κ : Lft) (q : Share) (s : RefT (List ℕ)) where
+module _ {M : Type 1} (𝓤 : URA M) (H : Heap 𝓤) (A : Atoms 𝓤) (W : Given 𝓤 H A) (mem : Memory → SProp 𝓤) (run : Routine → Fun 𝓤) (κ : Lft) (q : Share)
+    (s : RefT (List ℕ)) where
   abbrev made : Cur
   made = record { buf = s; pos = 0 }
 
@@ -54,17 +55,21 @@ module _ {M : Type 1} (𝓤 : URA M) (H : Heap 𝓤) (A : Atoms 𝓤) (W : Given
   exits : ent 𝓤 (onEntry 𝓤 H A new.signature (κ, tt) (q, tt) (s, tt) vals) (Post (T′.lowered made))
   exits =
       qed W ((‵ (flft κ q) ⊛ ‵ ftrue) ∷ ‵ (owns (Bytes κ ∷ []) (s, tt) vals) ∷ []) ∵
-      suffices ! _ (ends-at 𝓤 H A new.ended stayed (new.clauses 𝓤 H A mem run) W (((κ, tt), (q, tt), tt, (s, tt), vals), tt) (T′.lowered made) made (tt, tt) (tt, tt)) $ says ! (refl, refl) $
-      frame ! $ fsplit ! $ use1 W (‵ (Cursor κ .own made (T′.lowered made ∷ [])) ⊛ ‵ (Bytes κ .own s (slice-of s ∷ []))) (own-made κ 𝓤 H A W s 0 (lit< tt)) $ split ! $
+      suffices ! _ (ends-at 𝓤 H A new.ended stayed (new.clauses 𝓤 H A mem run) W (((κ, tt), (q, tt), tt, (s, tt), vals), tt) (T′.lowered made) made
+      (tt, tt) (tt, tt)) $ says ! (refl, refl) $
+      frame ! $ fsplit ! $ use1 W (‵ (Cursor κ .own made (T′.lowered made ∷ [])) ⊛ ‵ (Bytes κ .own s (slice-of s ∷ [])))
+      (own-made κ 𝓤 H A W s 0 (lit< tt)) $ split ! $
       move ! (1 ∷ 2 ∷ []) $ fjoin ! $ frame ! $ done !
 
   module _ (C : Calls 𝓤 H) (Λ : Loops 𝓤 H) where
-    walk : Is (Bytes κ) s (slice-of s ∷ []) → ent 𝓤 (onEntry 𝓤 H A new.signature (κ, tt) (q, tt) (s, tt) vals) (WpFn 𝓤 H C Λ code.function (slice-of s ∷ []) Post)
+    walk : Is (Bytes κ) s (slice-of s ∷ []) → ent 𝓤 (onEntry 𝓤 H A new.signature (κ, tt) (q, tt) (s, tt) vals)
+        (WpFn 𝓤 H C Λ code.function (slice-of s ∷ []) Post)
     walk is =
         let wt = shr-slice-lawful 𝓤 H A W (named 0) κ u8 .typed s (slice-of s ∷ []) is .0 in
         qed W (raw (onEntry 𝓤 H A new.signature (κ, tt) (q, tt) (s, tt) vals) ∷ []) ∵ enter ! C Λ code.function (slice-of s ∷ []) _ $
         alloc1 ! (λ l₀. alloc1 ! (λ l₁. alloc0 ! $ params1 ! $ pass1 ! (init ! 0 refl wt) $ pass0 ! $
-        assigns ! (agg ! (and-then ! (load ! (from ! (stop !)) (look ! 0 refl)) (and-then ! (lit ! tt) (no-more !)))) (from ! (stop !)) (init ! 2 refl (tt, (wt .1, (record { fits = lit< tt }, tt)))) $
+        assigns ! (agg ! (and-then ! (load ! (from ! (stop !)) (look ! 0 refl)) (and-then ! (lit ! tt) (no-more !)))) (from ! (stop !))
+        (init ! 2 refl (tt, (wt .1, (record { fits = lit< tt }, tt)))) $
         returns ! (look ! 2 refl) $ forget ! 0 refl $ forget ! 2 refl $ move ! (2 ∷ 3 ∷ []) $ free1 ! $ free1 ! $ free0 ! $ by ! exits))
 
 pub new-spec : {M : Type 1} → stated.statement M
@@ -73,5 +78,6 @@ new-spec 𝓤 H 𝓜 𝓖 𝓡 =
     let A = 𝓖 .A in
     let W = givenOf 𝓤 H 𝓜 𝓖 in
     by-walk 𝓤 H 𝓜 𝓖 𝓡 new.ended stayed (new.clauses 𝓤 H A (𝓜 .mem) (𝓡 .run)) code.env #new code.function (code.unfolded 𝓤 H 𝓜 𝓡)
-    (goes-none-slice 𝓤 H A W 1 (0 ∷ []) tt (plain (λ _. u8)) yes, tt) (λ κs. (slice-vals, tt)) (λ κs. (shr-slice-tells (named 0) (κs .0) u8, tt)) (λ fm κs qs bounds a g are.
+    (goes-none-slice 𝓤 H A W 1 (0 ∷ []) tt (plain (λ _. u8)) yes, tt) (λ κs. (slice-vals, tt)) (λ κs. (shr-slice-tells (named 0) (κs .0) u8, tt))
+    (λ fm κs qs bounds a g are.
     via 𝓤 _ (fst∗ 𝓤 _ (emp 𝓤)) (walk 𝓤 H A W (𝓜 .mem) (𝓡 .run) (κs .0) (qs .0) (a .0) _ _ (are .0)))

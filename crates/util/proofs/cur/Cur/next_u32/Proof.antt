@@ -16,6 +16,8 @@ use Rattle.util.proofs.cur.Cur.next_u32.Code as code
 pub next-u32-spec : {M : Type 1} → statement M
 unfolding code.routine
 next-u32-spec 𝓤 H 𝓜 𝓖 𝓡 =
-    next-number 𝓤 H 𝓜 𝓖 𝓡 code.env #next-u32 peek-u32-def.name 4 _ refl tt (code.unfolded 𝓤 H 𝓜 𝓡)
-    (cited 𝓤 H (tripleOf 𝓤 H (𝓖 .A) peek-u32.signature (peek-u32.spec 𝓤 H (𝓖 .A) (𝓜 .mem) (𝓡 .run))) 𝓜 𝓡 code.env peek-u32-def.name peek-u32-def.routine code.calls-util·cur·peek-u32 (peek-u32-thm.met 𝓤 H 𝓜 𝓖 𝓡))
-    (cited 𝓤 H (tripleOf 𝓤 H (𝓖 .A) pos-after.signature (pos-after.spec 𝓤 H (𝓖 .A) (𝓜 .mem) (𝓡 .run))) 𝓜 𝓡 code.env pos-after-def.name pos-after-def.routine code.calls-util·cur·pos-after (pos-after-thm.met 𝓤 H 𝓜 𝓖 𝓡))
+    next-number 𝓤 H 𝓜 𝓖 𝓡 code.env #next-u32 peek-u32-def.name 4 _ (code.unfolded 𝓤 H 𝓜 𝓡) refl tt
+    (cited 𝓤 H (tripleOf 𝓤 H (𝓖 .A) peek-u32.signature (peek-u32.spec 𝓤 H (𝓖 .A) (𝓜 .mem)
+    (𝓡 .run))) 𝓜 𝓡 code.env peek-u32-def.name peek-u32-def.routine code.calls-util·cur·peek-u32 (peek-u32-thm.met 𝓤 H 𝓜 𝓖 𝓡))
+    (cited 𝓤 H (tripleOf 𝓤 H (𝓖 .A) pos-after.signature (pos-after.spec 𝓤 H (𝓖 .A) (𝓜 .mem)
+    (𝓡 .run))) 𝓜 𝓡 code.env pos-after-def.name pos-after-def.routine code.calls-util·cur·pos-after (pos-after-thm.met 𝓤 H 𝓜 𝓖 𝓡))

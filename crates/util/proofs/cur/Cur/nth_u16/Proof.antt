@@ -28,4 +28,5 @@ unfolding code.routine
 nth-u16-spec 𝓤 H 𝓜 𝓖 𝓡 =
     asks-with w32 R.the-row R′.mir Says 𝓤 H 𝓜 𝓖 𝓡 code.env #nth-u16 nth-u16-of-def.name (code.unfolded 𝓤 H 𝓜 𝓡)
     (λ r u is. EL.lawful R.the-type R′.the-laws 𝓤 H (𝓖 .A) (givenOf 𝓤 H 𝓜 𝓖) tt .typed r _ is .0)
-    (cited 𝓤 H (tripleOf 𝓤 H (𝓖 .A) nth-u16-of.signature (nth-u16-of.spec 𝓤 H (𝓖 .A) (𝓜 .mem) (𝓡 .run))) 𝓜 𝓡 code.env nth-u16-of-def.name nth-u16-of-def.routine code.calls-util·cur·nth-u16-of (nth-u16-of-thm.met 𝓤 H 𝓜 𝓖 𝓡))
+    (cited 𝓤 H (tripleOf 𝓤 H (𝓖 .A) nth-u16-of.signature (nth-u16-of.spec 𝓤 H (𝓖 .A) (𝓜 .mem)
+    (𝓡 .run))) 𝓜 𝓡 code.env nth-u16-of-def.name nth-u16-of-def.routine code.calls-util·cur·nth-u16-of (nth-u16-of-thm.met 𝓤 H 𝓜 𝓖 𝓡))

@@ -29,4 +29,5 @@ unfolding code.routine
 peek-n-u8s-spec 𝓤 H 𝓜 𝓖 𝓡 =
     asks-with w64 R.the-row R′.mir Says 𝓤 H 𝓜 𝓖 𝓡 code.env #peek-n-u8s take-at-def.name (code.unfolded 𝓤 H 𝓜 𝓡)
     (λ r u is. EL.lawful R.the-type R′.the-laws 𝓤 H (𝓖 .A) (givenOf 𝓤 H 𝓜 𝓖) tt .typed r _ is .0)
-    (cited 𝓤 H (tripleOf 𝓤 H (𝓖 .A) take-at.signature (take-at.spec 𝓤 H (𝓖 .A) (𝓜 .mem) (𝓡 .run))) 𝓜 𝓡 code.env take-at-def.name take-at-def.routine code.calls-util·cur·take-at (take-at-thm.met 𝓤 H 𝓜 𝓖 𝓡))
+    (cited 𝓤 H (tripleOf 𝓤 H (𝓖 .A) take-at.signature (take-at.spec 𝓤 H (𝓖 .A) (𝓜 .mem)
+    (𝓡 .run))) 𝓜 𝓡 code.env take-at-def.name take-at-def.routine code.calls-util·cur·take-at (take-at-thm.met 𝓤 H 𝓜 𝓖 𝓡))
