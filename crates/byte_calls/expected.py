@@ -40,3 +40,6 @@ for buf in (block, ""):
         take(buf, int(p), int(n))
 for width, p in re.findall(r"^    peeked\(peek_u(\d+)\(buf, (\d+)\)\)", source, re.M):
     peek(block, int(width), int(p))
+for buf in (block, ""):
+    for p, n in re.findall(r"^    peeked\(nth_u16\(buf, (\d+), (\d+)\)\)", source, re.M):
+        peek(buf, 16, int(p) + 2 * int(n))

@@ -6,6 +6,7 @@ use util::bits::bits_u32;
 use util::cur::Needed;
 use util::cur::Peeked;
 use util::cur::Taken;
+use util::cur::nth_u16;
 use util::cur::part_at;
 use util::cur::peek_u8;
 use util::cur::peek_u16;
@@ -119,10 +120,27 @@ fn numbers(buf: &[u8]) {
     peeked(peek_u32(buf, 18446744073709551612));
 }
 
+fn nth_numbers(buf: &[u8]) {
+    peeked(nth_u16(buf, 0, 0));
+    peeked(nth_u16(buf, 0, 3));
+    peeked(nth_u16(buf, 0, 4));
+    peeked(nth_u16(buf, 1, 2));
+    peeked(nth_u16(buf, 1, 3));
+    peeked(nth_u16(buf, 6, 0));
+    peeked(nth_u16(buf, 7, 0));
+    peeked(nth_u16(buf, 9, 0));
+    peeked(nth_u16(buf, 0, 4294967295));
+    peeked(nth_u16(buf, 18446744073709551608, 3));
+    peeked(nth_u16(buf, 18446744073709551608, 4));
+    peeked(nth_u16(buf, 18446744073709551615, 4294967295));
+}
+
 fn main() {
     let buf = b"TEX0abcd";
     bit_fields();
     takes(buf);
     takes(b"");
     numbers(buf);
+    nth_numbers(buf);
+    nth_numbers(b"");
 }

@@ -6,14 +6,14 @@ use denote.Ref.{now}
 use Rattle.util.specs.Take.{takenTo}
 use Rattle.util.specs.declared.cur.Cur.{Cur}
 
--- The bytes that a cursor is over.
+-- 01, "Rust idioms to redo": "`Cur<'a>` keeps its slice and position together". The bytes that it is over.
 abbrev pub bytes : Cur → List ℕ
 bytes c = now (c .buf)
 
--- The cursor over the same slice at another position.
+-- The cursor over the same slice, at another position.
 abbrev pub movedTo : Cur → ℕ → Cur
 movedTo c pos = record { buf = c .buf; pos = pos }
 
--- The cursor after a take of n bytes.
+-- The cursor after a take of n bytes at its position.
 abbrev pub takenOn : Cur → ℕ → Cur
 takenOn c n = movedTo c (takenTo (length (bytes c)) (c .pos) n)

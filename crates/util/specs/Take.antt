@@ -31,7 +31,7 @@ peekedOutcome (peeked.Short needed) = refusal 1 (lengthOf needed)
 unfoldable pub takeOf : {A : Type 0} (len p n : ℕ) (passed : A) → Outcome A
 takeOf len p n passed = cond (leb (p + n) len) (result passed) (refusal 1 (p + n))
 
--- A take of `size` bytes at p that answers with their number.
+-- 01, "Rust idioms to redo": "plain 1, 2, 4-byte takes". A take of `size` bytes at p that answers with their number.
 abbrev pub peekOf : (size p : ℕ) → List ℕ → Outcome ℕ
 peekOf size p block = takeOf (length block) p size (numberAt size p block)
 
@@ -39,6 +39,7 @@ peekOf size p block = takeOf (length block) p size (numberAt size p block)
 unfoldable pub takenPart : (p n : ℕ) → List ℕ → List ℕ
 takenPart p n block = cond (leb (p + n) (length block)) (take n (drop p block)) []
 
--- Where a take at p leaves a position that it moves: behind its bytes, or at p where it is short.
+-- Where a take at p leaves a position that it moves. 01, "Modules" 2, names src/util/cur.rs, and "for the container the Rust does" decide: the
+-- position is behind the bytes of a take that passes, and stays where the take is short.
 unfoldable pub takenTo : (len p n : ℕ) → ℕ
 takenTo len p n = cond (leb (p + n) len) (p + n) p

@@ -7,7 +7,6 @@ use crate::view::view_u32;
 ghost use mathlib.Core.Path.{_≡_};
 ghost use Prim.Native.Nat.{_+_, _*_};
 ghost use lib.ListN.{length, drop};
-ghost use Rattle.util.specs.Number.{numberAt};
 ghost use Rattle.util.specs.Take.{lengthOf, takenOutcome, peekedOutcome, takeOf, peekOf, takenPart, takenTo};
 ghost use Rattle.util.specs.Cursor.{bytes, movedTo, takenOn};
 
@@ -72,7 +71,7 @@ fn part_of(buf: &[u8], pos: usize, n: usize) -> &[u8]
 
 // The number of 1 byte at pos.
 pub fn peek_u8(buf: &[u8], pos: usize) -> Peeked
-    ensures { λ r. ⌜ peekedOutcome r ≡ takeOf (length (now (buf .entry))) pos 1 (numberAt 1 pos (now (buf .entry))) ⌝ }
+    ensures { λ r. ⌜ peekedOutcome r ≡ peekOf 1 pos (now (buf .entry)) ⌝ }
 {
     match take_at(buf, pos, 1) {
         Taken::Whole(_) => Peeked::Number(view_u8(buf, pos) as u32),
@@ -82,7 +81,7 @@ pub fn peek_u8(buf: &[u8], pos: usize) -> Peeked
 
 // The little-endian number of 2 bytes at pos.
 pub fn peek_u16(buf: &[u8], pos: usize) -> Peeked
-    ensures { λ r. ⌜ peekedOutcome r ≡ takeOf (length (now (buf .entry))) pos 2 (numberAt 2 pos (now (buf .entry))) ⌝ }
+    ensures { λ r. ⌜ peekedOutcome r ≡ peekOf 2 pos (now (buf .entry)) ⌝ }
 {
     match take_at(buf, pos, 2) {
         Taken::Whole(_) => Peeked::Number(view_u16(buf, pos) as u32),
@@ -92,7 +91,7 @@ pub fn peek_u16(buf: &[u8], pos: usize) -> Peeked
 
 // The little-endian number of 4 bytes at pos.
 pub fn peek_u32(buf: &[u8], pos: usize) -> Peeked
-    ensures { λ r. ⌜ peekedOutcome r ≡ takeOf (length (now (buf .entry))) pos 4 (numberAt 4 pos (now (buf .entry))) ⌝ }
+    ensures { λ r. ⌜ peekedOutcome r ≡ peekOf 4 pos (now (buf .entry)) ⌝ }
 {
     match take_at(buf, pos, 4) {
         Taken::Whole(_) => Peeked::Number(view_u32(buf, pos)),

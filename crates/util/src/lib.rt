@@ -1,4 +1,4 @@
-// Bit fields, little-endian numbers and takes: apicula's src/util, with a position beside the slice.
+// Bit fields, little-endian numbers, takes and the cursor: apicula's src/util.
 pub mod bits;
 pub mod cur;
 pub mod view;
