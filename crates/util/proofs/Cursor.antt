@@ -133,15 +133,15 @@ module _ (κ : Lft) where
         forget ! 0 refl $ keep ! (0 ∷ []) $ done !))
 
 module _ {M : Type 1} {𝓤 : URA M} {H : Heap 𝓤} {A : Atoms 𝓤} {K : Type 0} {W : Given 𝓤 H A} {Γ : List (Item 𝓤)} {G : Goal 𝓤 H} where
-  pub gives-buf : K → (κ : Lft) (c : Cur) → Step K W (‵ (Bytes κ .own (c .buf) (slice-of (c .buf) ∷ [])) ∷ ‵
-      (Cursor κ .own c (T′.lowered c ∷ [])) ∷ Γ) G
+  pub gives-buf : K → (κ : Lft) (c : Cur) → Step K W (‵ (Bytes κ .own (c .buf) (slice-of (c .buf) ∷ []))
+      ∷ ‵ (Cursor κ .own c (T′.lowered c ∷ [])) ∷ Γ) G
       (‵ (Cursor κ .own c (T′.lowered c ∷ [])) ∷ Γ) G
   gives-buf k κ c = step (λ s. use1 W (‵ (Bytes κ .own (c .buf) (slice-of (c .buf) ∷ [])) ⊛ ‵ (Cursor κ .own c (T′.lowered c ∷ [])))
       (own-buf κ 𝓤 H A W c) $ split k $ s)
 
   pub opens-cursor : K → Soaks G → (κ : Lft) {κₛ : Lft} {q : Share} {γ : GName} (c : Cur) (b o : ℕ)
-      → (Is (Lent κ) c (T′.lowered c ∷ []) → Seq K W (‵ (fat fullShare (T′.mir erased) b o (T′.lowered c)) ∷ ‵ (Lent κ .own c (T′.lowered c ∷ [])) ∷ ‵
-      (fobor κₛ q (Body (mem (Lent κ)) b o γ)) ∷ ‵ (fobs γ (Lent κ .coded .code c)) ∷ ‵ (fauth γ (Lent κ .coded .code c)) ∷ Γ) G)
+      → (Is (Lent κ) c (T′.lowered c ∷ []) → Seq K W (‵ (fat fullShare (T′.mir erased) b o (T′.lowered c)) ∷ ‵ (Lent κ .own c (T′.lowered c ∷ []))
+      ∷ ‵ (fobor κₛ q (Body (mem (Lent κ)) b o γ)) ∷ ‵ (fobs γ (Lent κ .coded .code c)) ∷ ‵ (fauth γ (Lent κ .coded .code c)) ∷ Γ) G)
       → Seq K W (‵ (fobs γ (Lent κ .coded .code c)) ∷ ‵ (fbor κₛ (Body (mem (Lent κ)) b o γ)) ∷ ‵ (flft κₛ q) ∷ Γ) G
   opens-cursor k z κ c b o next =
       opens k z (Lent κ) b o (λ vs. spelt k (Lent κ) (Is (Lent κ)) (shows 𝓤 H A (Lent κ)) (cursor-vals κ) (cursor-tells κ) fullShare c vs b o $
@@ -150,8 +150,8 @@ module _ {M : Type 1} {𝓤 : URA M} {H : Heap 𝓤} {A : Atoms 𝓤} {K : Type 
 
   pub closes-cursor : K → Soaks G → (κ : Lft) {κₛ : Lft} {q : Share} {γ : GName} {u v : Gv} (c : Cur) (pos : ℕ) → pos < 2 ^ 64 → (b o : ℕ)
       → Step K W (‵ (fobs γ (Lent κ .coded .code (movedTo c pos))) ∷ ‵ (fbor κₛ (Body (mem (Lent κ)) b o γ)) ∷ ‵ (flft κₛ q) ∷ Γ) G
-      (‵ (fat fullShare (T′.mir erased) b o (T′.lowered (movedTo c pos))) ∷ ‵ (Lent κ .own c (T′.lowered c ∷ [])) ∷ ‵
-      (fobor κₛ q (Body (mem (Lent κ)) b o γ)) ∷ ‵ (fobs γ u) ∷ ‵ (fauth γ v) ∷ Γ) G
+      (‵ (fat fullShare (T′.mir erased) b o (T′.lowered (movedTo c pos))) ∷ ‵ (Lent κ .own c (T′.lowered c ∷ []))
+      ∷ ‵ (fobor κₛ q (Body (mem (Lent κ)) b o γ)) ∷ ‵ (fobs γ u) ∷ ‵ (fauth γ v) ∷ Γ) G
   closes-cursor k z κ c pos fits b o =
       step (λ s. use1 W (‵ (cellAt fullShare (Lent κ .mir) (T′.lowered (movedTo c pos) ∷ []) b o))
       (W .laws .at-raw fullShare (T′.mir erased) b o (T′.lowered (movedTo c pos))) $

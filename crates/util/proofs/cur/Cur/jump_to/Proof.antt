@@ -52,11 +52,11 @@ module _ {M : Type 1} (𝓤 : URA M) (H : Heap 𝓤) (A : Atoms 𝓤) (W : Given
   abbrev Post : Val → SProp 𝓤
   Post = walkOf 𝓤 H A jump-to.ended stayed (jump-to.clauses 𝓤 H A at-mem run) .post (((κ, (κ′, tt)), (q, (q′, tt)), bounds, x, vals), tt)
 
-  exits : ent 𝓤 (⋆ 𝓤 H A (‵ (fobs γ (Lent κ′ .coded .code (movedTo c pos))) ∷ ‵ (fbor κ (Body (mem (Lent κ′)) b o γ)) ∷ ‵
-      (flft κ q) ∷ (‵ (flft κ′ q′) ⊛ ‵ ftrue) ∷ [])) (Post vunit)
+  exits : ent 𝓤 (⋆ 𝓤 H A (‵ (fobs γ (Lent κ′ .coded .code (movedTo c pos))) ∷ ‵ (fbor κ (Body (mem (Lent κ′)) b o γ))
+      ∷ ‵ (flft κ q) ∷ (‵ (flft κ′ q′) ⊛ ‵ ftrue) ∷ [])) (Post vunit)
   exits =
-      qed W (‵ (fobs γ (Lent κ′ .coded .code (movedTo c pos))) ∷ ‵ (fbor κ (Body (mem (Lent κ′)) b o γ)) ∷ ‵
-      (flft κ q) ∷ (‵ (flft κ′ q′) ⊛ ‵ ftrue) ∷ []) ∵
+      qed W (‵ (fobs γ (Lent κ′ .coded .code (movedTo c pos))) ∷ ‵ (fbor κ (Body (mem (Lent κ′)) b o γ))
+      ∷ ‵ (flft κ q) ∷ (‵ (flft κ′ q′) ⊛ ‵ ftrue) ∷ []) ∵
       suffices ! _ (ends-at 𝓤 H A jump-to.ended stayed (jump-to.clauses 𝓤 H A at-mem run) W
       (((κ, (κ′, tt)), (q, (q′, tt)), bounds, x, vals), tt) vunit tt (movedTo c pos, (tt, tt)) (tt, (tt, tt))) $ says ! refl $
       move ! (2 ∷ 3 ∷ []) $ join ! $ frame ! $ feqI ! (List Val) (vptr b o ∷ []) (vptr b o ∷ []) refl $ fjoin3 ! $
