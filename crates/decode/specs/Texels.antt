@@ -26,10 +26,14 @@ blue color = color / 2 ^ 10 % 2 ^ 5
 unfoldable pub pixel : (color alpha : ℕ) → List ℕ
 pixel color alpha = widen (red color) ∷ widen (green color) ∷ widen (blue color) ∷ widen alpha ∷ []
 
+-- Colours end where the palette block does, and not where another palette begins.
+abbrev pub colorsEnd : (palBlock : List ℕ) → ℕ
+colorsEnd palBlock = length palBlock
+
 -- "Palette colour i of a palette at byte offset p is the 2-byte number at p + 2i of the palette block, or 0 unless both bytes are inside
 -- it; never an error."
 unfoldable pub paletteColor : (palBlock : List ℕ) (p i : ℕ) → ℕ
-paletteColor palBlock p i = cond (leb (p + 2 * i + 2) (length palBlock)) (numberAt 2 (p + 2 * i) palBlock) 0
+paletteColor palBlock p i = cond (leb (p + 2 * i + 2) (colorsEnd palBlock)) (numberAt 2 (p + 2 * i) palBlock) 0
 
 -- "texels within a byte start at its low bits": texel n of a texture whose texels have `bits` bits, 2, 4 or 8.
 unfoldable pub texelBits : (bits : ℕ) (texels : List ℕ) (n : ℕ) → ℕ

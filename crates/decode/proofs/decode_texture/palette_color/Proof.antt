@@ -9,7 +9,7 @@ use borrow.Author.Tests.{le-leb, lt-leb}
 use Rattle.util.specs.Number.{numberAt}
 use Rattle.util.proofs.Numbers.{number-small}
 use Rattle.util.proofs.Takes.{Took, took, lacked}
-use Rattle.decode.specs.Texels.{paletteColor}
+use Rattle.decode.specs.Texels.{colorsEnd, paletteColor}
 use Rattle.decode.proofs.decode_texture.palette_color.Statement.{statement}
 use Rattle.decode.proofs.decode_texture.palette_color.Tie as tie
 
@@ -38,13 +38,14 @@ returns : tie.Need-returns
 unfolding paletteColor
 returns c =
     let a = c .before .before .before .before .before .args in
-    rw (le-leb (a .off + 2 * a .i + 2) (length (now (a .pal))) (there c .within)) (there c .holds)
+    rw (le-leb (a .off + 2 * a .i + 2) (colorsEnd (now (a .pal))) (omega (arith, there c .within))) (there c .holds)
 
 returns-2 : tie.Need-returns-2
 unfolding paletteColor
 returns-2 c =
     let a = c .before .before .before .before .args in
-    rw (lt-leb (a .off + 2 * a .i + 2) (length (now (a .pal))) (lacked _ _ _ _ (rw (c .enum-told .given .1) at (c .before .before .nth-u16 .ensures)) .past))
+    let l = lacked _ _ _ _ (rw (c .enum-told .given .1) at (c .before .before .nth-u16 .ensures)) in
+    rw (lt-leb (a .off + 2 * a .i + 2) (colorsEnd (now (a .pal))) (omega (arith, l .past)))
 
 pub palette-color-spec : {M : Type 1} → statement M
 palette-color-spec = tie.close (tie.spec nth-u16-requires enum-known-color cast-result enum-told returns returns-2)
