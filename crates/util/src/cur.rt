@@ -127,7 +127,7 @@ pub(crate) fn pos_after(buf: &[u8], pos: usize, n: usize) -> usize
     }
 }
 
-// A slice and a position in it. Each function takes the two out and calls the function above that does the work.
+// A slice and a position in it. Its functions hold no test of their own: they call the functions above on the two.
 pub struct Cur<'a> {
     buf: &'a [u8],
     pos: usize,
