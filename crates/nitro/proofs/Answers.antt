@@ -20,7 +20,7 @@ use Rattle.info_block.specs.InfoBlock.{listAt, listLength}
 use Rattle.nitro.specs.Tex as Tex
 use Rattle.nitro.specs.Tex.{Contents, headerOf, readTex}
 use Rattle.nitro.specs.Calls.{Answers, entry, textureEntry, paletteEntry, valueOr, readingOf, textureOf, partOf, data1Of, data2Of, palBlockOf}
-use Rattle.nitro.specs.Calls.{Sources, chosenOf, sourcesOf, sourcesAt, placesAt, placesOf}
+use Rattle.nitro.specs.Calls.{Sources, chosenOf, sourcesOf, sourcesAt, placesAt, placesOf, partAt, palPlaceAt, palPlaceOf}
 use Rattle.nitro.specs.Layouts.{countOf, layoutOf, layoutWith, hasChoice, chosenAt, placesBy}
 use Rattle.nitro.specs.declared.tex.Header.{Header}
 use Rattle.nitro.specs.declared.tex.Layout.{Layout}
@@ -28,8 +28,9 @@ use Rattle.nitro.specs.declared.tex.PaletteChoice.{PaletteChoice}
 use Rattle.nitro.specs.declared.tex.PaletteChoice.the-variants as choices
 use Rattle.nitro.specs.declared.tex.PaletteOff.{PaletteOff}
 use Rattle.nitro.specs.declared.tex.PaletteOff.the-variants as offs
+use Rattle.nitro.specs.declared.tex.Place.{Place}
 use Rattle.nitro.specs.declared.tex.Places.{Places}
-use Rattle.info_block.proofs.Runs.{whole-outcome}
+use Rattle.info_block.proofs.Runs.{whole-outcome, ended, follows-self, refused}
 use Rattle.nitro.proofs.Readings.{TextureAt, finished, textures-listed, palettes-listed, pal-block-whole}
 
 -- entry n of a list, and none
@@ -69,6 +70,17 @@ unfolding readingOf palBlockOf outcomeOf
 declined-pal-block (short w) e = refl
 declined-pal-block (fault found) e = refl
 declined-pal-block (whole c) e = let z : _≡_ {A = ℕ} 0 1 = cc in absurd (omega arith)
+
+-- the palette block by its place
+pub placed-part : (b : List ℕ) {place : Place} → result place ≡ palPlaceOf b (run readTex b) → partAt b place ≡ palBlockOf (run readTex b)
+unfolding palPlaceOf palBlockOf
+placed-part b e =
+    let o = ended (run readTex b) (λ _. palPlaceAt (headerOf (take 60 b))) e in
+    rw (o .gives) (sym (pal-block-whole _ b (finished b (o .is) .pal-block)) ∙ ap partOf (whole-outcome _ (o .is)))
+
+pub placed-refused : (b : List ℕ) (r : Refusal) → refusalOutcome r ≡ palPlaceOf b (run readTex b) → [] ≡ palBlockOf (run readTex b)
+unfolding palPlaceOf palBlockOf
+placed-refused b r e = ap partOf (refused _ _ (follows-self _) _ _ r e)
 
 -- a status with its record beside it
 module _ {A : Type 0} (blank : A) {answer : Outcome A} {beside : A} where

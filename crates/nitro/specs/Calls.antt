@@ -28,6 +28,8 @@ use Rattle.nitro.specs.declared.tex.Place.{Place}
 use Rattle.nitro.specs.declared.tex.Places.{Places}
 use Rattle.nitro.specs.declared.tex.Located.{Located}
 use Rattle.nitro.specs.declared.tex.Located.the-variants as located
+use Rattle.nitro.specs.declared.tex.Placed.{Placed}
+use Rattle.nitro.specs.declared.tex.Placed.the-variants as placed
 
 -- 01, "When a call is declined": "A reading gives both counts".
 pub record Counts : Type 0 where
@@ -131,6 +133,17 @@ sourcesOf n choice a = outcomeOf a λ c. do
   palette ← chosenOf choice (c .palettes)
   result (record { word = texture .word; parts = texture .parts; palette = palette; palBlock = c .palBlock })
 
+-- Where the palette block is: "palette block (8 times its unit count)".
+abbrev pub palPlaceAt : Header → Place
+palPlaceAt h = record { pos = h .«pal_block_off»; len = 8 * h .«pal_block_len_shr_3» }
+
+unfoldable pub palPlaceOf : (block : List ℕ) → Answer Contents → Outcome Place
+palPlaceOf block a = outcomeOf a λ c. result (palPlaceAt (headerOf (take 60 block)))
+
+abbrev pub placedOutcome : Placed → Outcome Place
+placedOutcome (placed.Found place) = result place
+placedOutcome (placed.Refused r) = refusalOutcome r
+
 -- The places of a picture's parts. 01, "Modules" 5: "Data lies at `tex_block_off` + offset. For format 5 it lies at
 -- `compressed1_block_off` + offset, then half as many bytes at `compressed2_block_off` + half the offset."
 abbrev pub placesAt : Header → (word : ℕ) → PaletteOff → Places
@@ -139,7 +152,7 @@ placesAt h word palette = record {
   data1 = record { pos = dataAt h word; len = dataLength word };
   data2 = record { pos = secondAt h word; len = secondLength word };
   palette = palette;
-  «pal_block» = record { pos = h .«pal_block_off»; len = 8 * h .«pal_block_len_shr_3» };
+  «pal_block» = palPlaceAt h;
 }
 
 unfoldable pub placesOf : (n : ℕ) → PaletteChoice → (block : List ℕ) → Answer Contents → Outcome Places

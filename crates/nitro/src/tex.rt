@@ -119,6 +119,11 @@ pub enum Located {
     Refused(Refusal),
 }
 
+pub enum Placed {
+    Found(Place),
+    Refused(Refusal),
+}
+
 // Whether the block begins with TEX0.
 fn has_stamp(block: &[u8]) -> bool
     requires { ⌜ 60 ≤ length (now block) ⌝ }
@@ -174,6 +179,16 @@ fn pal_block_len(header: Header) -> usize
     ensures { λ r. ⌜ r < 2 ^ 19 ⌝ }
 {
     8 * (header.pal_block_len_shr_3 as usize)
+}
+
+// The palette block's place.
+fn pal_place_at(header: Header) -> Place
+    ensures { λ r. ⌜ r ≡ Calls.palPlaceAt header ⌝ }
+{
+    Place {
+        pos: header.pal_block_off as usize,
+        len: pal_block_len(header),
+    }
 }
 
 // Whether the palette block is there.
@@ -427,16 +442,26 @@ pub fn texture_data2(block: &[u8], n: usize) -> &[u8]
     }
 }
 
-// The palette block, which all palettes share.
-pub fn pal_block(block: &[u8]) -> &[u8]
-    ensures { λ r. ⌜ now r ≡ Calls.palBlockOf (run Tex.readTex (now (block .entry))) ⌝ }
+// Where the palette block is.
+pub fn pal_place(block: &[u8]) -> Placed
+    ensures { λ r. ⌜ Calls.placedOutcome r ≡ Calls.palPlaceOf (now (block .entry)) (run Tex.readTex (now (block .entry))) ⌝ }
 {
     match lay_out(block) {
         Laid::Found(layout) => {
             let header = layout.header;
-            part_at(block, header.pal_block_off as usize, pal_block_len(header))
+            Placed::Found(pal_place_at(header))
         }
-        Laid::Refused(_) => &block[..0],
+        Laid::Refused(refusal) => Placed::Refused(refusal),
+    }
+}
+
+// The palette block, which all palettes share.
+pub fn pal_block(block: &[u8]) -> &[u8]
+    ensures { λ r. ⌜ now r ≡ Calls.palBlockOf (run Tex.readTex (now (block .entry))) ⌝ }
+{
+    match pal_place(block) {
+        Placed::Found(place) => part_at(block, place.pos, place.len),
+        Placed::Refused(_) => &block[..0],
     }
 }
 
@@ -482,10 +507,7 @@ fn places_of(block: &[u8], layout: Layout, n: usize, palette: PaletteOff) -> Pla
             len: params.byte_len2(),
         },
         palette,
-        pal_block: Place {
-            pos: header.pal_block_off as usize,
-            len: pal_block_len(header),
-        },
+        pal_block: pal_place_at(header),
     }
 }
 

@@ -17,11 +17,12 @@ use Rattle.errors.specs.declared.Kind.{Kind}
 use Rattle.errors.specs.declared.Kind.the-variants as kinds
 use Rattle.info_block.specs.Script.{Script, Answer, short, fault, whole, run, outcomeOf}
 use Rattle.info_block.specs.InfoBlock.{nameList, listCount}
-use Rattle.nitro.specs.Tex.{Palette, Contents, readTex}
+use Rattle.nitro.specs.Tex.{Palette, Contents, headerOf, readTex}
 use Rattle.nitro.specs.Calls as Calls
 use Rattle.nitro.specs.declared.tex.PaletteChoice.{PaletteChoice}
 use Rattle.nitro.specs.declared.tex.PaletteChoice.the-variants as choices
 use Rattle.nitro.specs.declared.tex.PaletteOff.{PaletteOff}
+use Rattle.nitro.specs.declared.tex.Place.{Place}
 use Rattle.nitro.specs.declared.tex.Places.{Places}
 use Rattle.info_block.proofs.Runs.{bytes-out}
 use Rattle.nitro.proofs.Readings.{header-follows, read-header-follows}
@@ -175,6 +176,27 @@ write-short (refusal k v) output w e = cc
 ends-early : (b : List ℕ) → length b < 60 → run readTex b ≡ short 60
 ends-early b h = read-header-follows b .at-short 60 (header-follows b .at-short 60 (bytes-out 0 60 b h))
 
+-- an answer that takes no more of the block than its header
+by-header : {A : Type 0} (f : (header : List ℕ) → Answer Contents → Outcome A)
+    → ((header : List ℕ) (a : Answer Contents) (w : ℕ) → a ≡ short w → f header a ≡ refusal 1 w)
+    → (b : List ℕ) (m : ℕ) → m ≤ length b → run readTex (take m b) ≡ run readTex b
+    → f (take 60 (take m b)) (run readTex (take m b)) ≡ f (take 60 b) (run readTex b)
+by-header f at-short b m h e = go (leb 60 m) refl
+  where
+    go : (t : Bool) → leb 60 m ≡ t → f (take 60 (take m b)) (run readTex (take m b)) ≡ f (take 60 b) (run readTex b)
+    go true q = rw (e, part-of-prefix 0 60 m b (leb-true 60 m q))
+    go false q =
+        let r = ends-early (take m b) (rw (length-take-le m b h) (leb-false 60 m q)) in
+        at-short (take 60 (take m b)) _ 60 r ∙ sym (at-short (take 60 b) _ 60 (sym e ∙ r))
+
+pub pal-place-scripted : Scripted readTex (λ b. Calls.palPlaceOf b (run readTex b)) nothing tt
+unfolding Calls.palPlaceOf outcomeOf
+pal-place-scripted = record {
+  same = λ b m h e. (by-header (λ header a. outcomeOf a λ c. result (Calls.palPlaceAt (headerOf header))) (λ header a w q. rw q) b m h e, refl);
+  at-short = λ b w e. (rw e, refl);
+  only-short = λ b w e. outcome-short (run readTex b) _ (λ _. result-not {A = Place}) w e;
+}
+
 module _ (n : ℕ) (choice : PaletteChoice) where
   sources-short : (a : Answer Contents) (w : ℕ) → Calls.sourcesOf n choice a ≡ refusal 1 w → a ≡ short w
   unfolding Calls.sourcesOf
@@ -192,15 +214,10 @@ module _ (n : ℕ) (choice : PaletteChoice) where
 
   places-same : (b : List ℕ) (m : ℕ) → m ≤ length b → run readTex (take m b) ≡ run readTex b
       → Calls.placesOf n choice (take m b) (run readTex (take m b)) ≡ Calls.placesOf n choice b (run readTex b)
-  unfolding Calls.placesOf
-  places-same b m h e = go (leb 60 m) refl
-    where
-      go : (t : Bool) → leb 60 m ≡ t
-          → Calls.placesOf n choice (take m b) (run readTex (take m b)) ≡ Calls.placesOf n choice b (run readTex b)
-      go true q = rw (e, part-of-prefix 0 60 m b (leb-true 60 m q))
-      go false q =
-          let r = ends-early (take m b) (rw (length-take-le m b h) (leb-false 60 m q)) in
-          places-at-short (take m b) _ 60 r ∙ sym (places-at-short b _ 60 (sym e ∙ r))
+  unfolding Calls.placesOf Calls.sourcesOf outcomeOf _>>=_
+  places-same =
+      by-header (λ header a. Calls.sourcesOf n choice a >>= λ s. result (Calls.placesAt (headerOf header) (s .word) (s .palette)))
+      (λ header a w e. rw e)
 
   pub locate-scripted : Scripted readTex (λ b. Calls.placesOf n choice b (run readTex b)) nothing tt
   unfolding Calls.placesOf

@@ -52,6 +52,8 @@ pub record PrefixLaws : Type 0 where
   pub texture-data2 : (i : ℕ) → Prefix (λ b. Calls.textureOf i (run readTex b)) (λ b. Calls.data2Of i (run readTex b)) []
   -- `nitro::tex::pal_block`: the palette block, whose refusal is the reading's.
   pub pal-block : Prefix (λ b. Calls.readingOf (run readTex b)) (λ b. Calls.palBlockOf (run readTex b)) []
+  -- `nitro::tex::pal_place`: where the palette block is.
+  pub pal-place : Prefix (λ b. Calls.palPlaceOf b (run readTex b)) nothing tt
   -- `nitro::tex::locate`: where a picture's parts are.
   pub locate : (i : ℕ) (choice : PaletteChoice) → Prefix (λ b. Calls.placesOf i choice b (run readTex b)) nothing tt
   -- `decode::picture::picture`: a picture's length, and the output as the call leaves it.

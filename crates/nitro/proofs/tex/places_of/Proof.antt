@@ -22,23 +22,20 @@ data2-pos-requires c κs = search needs
 byte-len2-requires : tie.Need-byte-len2-requires
 byte-len2-requires c κs = search needs
 
-cast-t13 : tie.Need-cast-t13
-cast-t13 c = search needs
-
-pal-block-len-requires : tie.Need-pal-block-len-requires
-pal-block-len-requires c κs = search needs
+pal-place-at-requires : tie.Need-pal-place-at-requires
+pal-place-at-requires c κs = search needs
 
 returns : tie.Need-returns
 unfolding placesBy
 returns c =
-    let second = c .before .before .before in
+    let second = c .before .before in
     let first = second .before .before in
     rw (
       first .data1-pos .ensures .0,
       second .before .byte-len .ensures,
       second .data2-pos .ensures .0,
-      c .before .before .byte-len2 .ensures,
-      c .pal-block-len .ensures .0,
+      c .before .byte-len2 .ensures,
+      c .pal-place-at .ensures,
       ← first .before .params-at .ensures,
     )
 
@@ -52,6 +49,5 @@ places-of-spec =
     byte-len-requires
     data2-pos-requires
     byte-len2-requires
-    cast-t13
-    pal-block-len-requires
+    pal-place-at-requires
     returns)
