@@ -315,6 +315,37 @@ located-sources n choice b {places} e = go (run readTex b) refl
         pick true h = sources-at n choice b q (ltb-true n (length (c .textures)) h) e
         pick false h = no (rw (q, entry-out kinds.Texture (λ (t : Tex.Texture). t) (c .textures) n (ltb-false n (length (c .textures)) h)) at e)
 
+-- and the data among them
+pub sources-data : (n : ℕ) (choice : PaletteChoice) (a : Answer Contents) {s : Sources} → result s ≡ sourcesOf n choice a
+    → (s .parts .data1 ≡ data1Of n a) × (s .parts .data2 ≡ data2Of n a)
+unfolding sourcesOf data1Of data2Of textureEntry outcomeOf _>>=_
+sources-data n choice a {s} e = go a refl
+  where
+    no : {A : Type 0} {k v : ℕ} → _≡_ {A = Outcome Sources} (result s) (refusal k v) → A
+    no q = let z : _≡_ {A = ℕ} 0 1 = cc in absurd (omega arith)
+
+    go : (x : Answer Contents) → a ≡ x → (s .parts .data1 ≡ data1Of n a) × (s .parts .data2 ≡ data2Of n a)
+    go (short w) q = no (rw q at e)
+    go (fault f) q = no (rw q at e)
+    go (whole c) q = pick (ltb n (length (c .textures))) refl
+      where
+        pick : (t : Bool) → ltb n (length (c .textures)) ≡ t → (s .parts .data1 ≡ data1Of n a) × (s .parts .data2 ≡ data2Of n a)
+        pick true h = chosen (chosenOf choice (c .palettes)) refl
+          where
+            below : n < length (c .textures)
+            below = ltb-true n (length (c .textures)) h
+
+            chosen : (o : Outcome PaletteOff) → chosenOf choice (c .palettes) ≡ o
+                → (s .parts .data1 ≡ data1Of n a) × (s .parts .data2 ≡ data2Of n a)
+            chosen (refusal k v) p = no (rw (q, entry-in kinds.Texture (λ (t : Tex.Texture). t) (c .textures) n blankTexture below, p) at e)
+            chosen (result o) p =
+                let same = rw (q, entry-in kinds.Texture (λ (t : Tex.Texture). t) (c .textures) n blankTexture below, p) at e in
+                let is : s .parts ≡ getD (c .textures) n blankTexture .parts = cc same in (
+                  rw (q, is, entry-in kinds.Texture (λ (t : Tex.Texture). t .parts .data1) (c .textures) n blankTexture below),
+                  rw (q, is, entry-in kinds.Texture (λ (t : Tex.Texture). t .parts .data2) (c .textures) n blankTexture below),
+                )
+        pick false h = no (rw (q, entry-out kinds.Texture (λ (t : Tex.Texture). t) (c .textures) n (ltb-false n (length (c .textures)) h)) at e)
+
 pub located-refused : (n : ℕ) (choice : PaletteChoice) (b : List ℕ) (r : Refusal) (a : Answer Contents)
     → refusalOutcome r ≡ placesOf n choice b a → refusalOutcome r ≡ sourcesOf n choice a
 unfolding placesOf _>>=_

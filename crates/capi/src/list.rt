@@ -1,0 +1,18 @@
+// The listing of a block.
+use crate::answers::tell_len;
+use listing::list;
+ghost use mathlib.Core.Path.{_≡_};
+ghost use Rattle.util.specs.Outcome.{result};
+ghost use Rattle.errors.specs.Output.{writeOutcome, writeOutput};
+ghost use Rattle.listing.specs.Listing.{listingText};
+ghost use Rattle.capi.specs.Told as Told;
+
+// Writes the listing of a block. A block that is refused is listed as one line.
+#[no_mangle]
+pub extern "C" fn rasclanya_list(input: &[u8], out: &mut [u8], len: &mut usize) -> u32
+    ensures { λ r. ⌜ r ≡ Told.codeOf (writeOutcome (result (listingText (now (input .entry)))) (now (out .entry))) ⌝ }
+    ensures { λ _. ⌜ now (out .exit) ≡ writeOutput (result (listingText (now (input .entry)))) (now (out .entry)) ⌝ }
+    ensures { λ _. ⌜ now (len .exit) ≡ Told.left (now (len .entry)) Told.itself (writeOutcome (result (listingText (now (input .entry)))) (now (out .entry))) ⌝ }
+{
+    tell_len(list(input, out), len)
+}
