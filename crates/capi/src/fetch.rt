@@ -26,9 +26,9 @@ pub extern "C" fn rasclanya_fetch_tex(
     ensures { λ _. ⌜ now («short_answers» .exit) ≤ 6 + 2 * textureCount (now (block .entry)) ⌝ }
     ensures { λ _. ⌜ now (needed .exit) ≡ Told.neededOf (Told.reading (now (block .entry))) ⌝ }
 {
-    let fetched = fetch_tex(block);
-    let reading = fetched.reading;
-    *short_answers = fetched.short_answers;
+    let tex_run = fetch_tex(block);
+    let reading = tex_run.reading;
+    *short_answers = tex_run.short_answers;
     tell_counts(reading, textures, palettes, needed)
 }
 
@@ -51,8 +51,8 @@ pub extern "C" fn rasclanya_fetch_picture(
     ensures { λ _. ⌜ now («short_answers» .exit) ≤ 6 + 2 * textureCount (now (block .entry)) ⌝ }
     ensures { λ _. ⌜ now (needed .exit) ≡ Told.neededOf (writeOutcome (Told.picture (now (block .entry)) n «has_palette» palette) (now (out .entry))) ⌝ }
 {
-    let fetched = fetch_picture(block, n, choice_of(has_palette, palette), out);
-    let picture = fetched.picture;
-    *short_answers = fetched.short_answers;
+    let picture_run = fetch_picture(block, n, choice_of(has_palette, palette), out);
+    let picture = picture_run.picture;
+    *short_answers = picture_run.short_answers;
     tell_count(picture, len, needed)
 }

@@ -477,16 +477,19 @@ fn decode_format6(out: &mut [u8], num_texels: usize, data1: &[u8], pal: &[u8], o
     }
 }
 
+// The alpha of a texel of format 7, by bit 15 of its colour.
+fn direct_alpha(rgb555: u16) -> u8
+    ensures { λ r. ⌜ (r ≡ Texels.directAlpha rgb555) × (r < 32) ⌝ }
+{
+    let alpha_bit = rgb555 >> 15;
+    if alpha_bit == 0 { 0 } else { 31 }
+}
+
 // A texel of format 7 by its colour.
 fn direct(rgb555: u16) -> [u8; 4]
     ensures { λ r. ⌜ r ≡ Texels.direct rgb555 ⌝ }
 {
-    let alpha_bit = rgb555 >> 15;
-    if alpha_bit == 0 {
-        rgb555a5(rgb555, 0)
-    } else {
-        rgb555a5(rgb555, 31)
-    }
+    rgb555a5(rgb555, direct_alpha(rgb555))
 }
 
 // Direct colour texture: 16-bit colours, no palette.
