@@ -11,7 +11,7 @@ use Rattle.util.specs.Outcome.{Outcome, result, refusal, _>>=_}
 use Rattle.errors.specs.Refusal.{refusalOutcome}
 use Rattle.errors.specs.declared.Refusal.{Refusal}
 use Rattle.nitro.proofs.Answers.{passed-on}
-use Rattle.capi.specs.Told.{named, nameOf}
+use Rattle.told.specs.Told.{named, nameOf}
 
 module _ {A : Type 0} (output : List ℕ) {answer : Outcome A} where
   pub named-there : {a : A} → result a ≡ answer → 16 ≤ length output → result a ≡ named output answer

@@ -19,7 +19,7 @@ use Rattle.nitro.specs.declared.tex.PaletteChoice.the-variants as choice
 use Rattle.nitro.specs.declared.tex.Place.{Place}
 use Rattle.nitro.specs.declared.tex.Places.{Places}
 use Rattle.nitro.proofs.Answers.{passed-on, located-sources, sources-data, placed-part}
-use Rattle.capi.specs.Told.{placeOf, data1, data2, palBlock, Inside}
+use Rattle.told.specs.Told.{placeOf, data1, data2, palBlock, Inside}
 
 -- a part that was taken, by its place
 place-inside : (b : List ℕ) (p n : ℕ) → Inside b (takenPart p n b) (placeOf p (takenPart p n b))

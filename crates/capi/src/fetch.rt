@@ -1,14 +1,14 @@
 // Fetching runs: a reading or a picture of a whole block, and how many answers were short.
-use crate::answers::choice_of;
-use crate::answers::tell_count;
-use crate::answers::tell_counts;
 use stream::fetch_picture::fetch_picture;
 use stream::fetch_tex::fetch_tex;
+use told::choice_of;
+use told::tell_count;
+use told::tell_counts;
 ghost use mathlib.Core.Path.{_≡_};
 ghost use Prim.Native.Nat.{_+_, _*_, _≤_};
 ghost use Rattle.errors.specs.Output.{writeOutcome, writeOutput};
 ghost use Rattle.stream.specs.Fetch.{shortAnswers, textureCount};
-ghost use Rattle.capi.specs.Told as Told;
+ghost use Rattle.told.specs.Told as Told;
 
 // Reads the block as far as each answer needs.
 #[no_mangle]

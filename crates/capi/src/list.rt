@@ -1,11 +1,11 @@
 // The listing of a block.
-use crate::answers::tell_len;
 use listing::list;
+use told::tell_len;
 ghost use mathlib.Core.Path.{_≡_};
 ghost use Rattle.util.specs.Outcome.{result};
 ghost use Rattle.errors.specs.Output.{writeOutcome, writeOutput};
 ghost use Rattle.listing.specs.Listing.{listingText};
-ghost use Rattle.capi.specs.Told as Told;
+ghost use Rattle.told.specs.Told as Told;
 
 // Writes the listing of a block. A block that is refused is listed as one line.
 #[no_mangle]

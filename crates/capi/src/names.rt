@@ -1,12 +1,12 @@
 // Names as texts. A name is the first 16 bytes of a slice; bytes that it lacks are 0.
-use crate::answers::tell_len;
 use name::Name;
 use text::put;
+use told::tell_len;
 ghost use mathlib.Core.Path.{_≡_};
 ghost use Rattle.util.specs.Outcome.{result};
 ghost use Rattle.errors.specs.Output.{writeOutcome, writeOutput};
 ghost use Rattle.name.specs.Name.{safeText, displayText};
-ghost use Rattle.capi.specs.Told as Told;
+ghost use Rattle.told.specs.Told as Told;
 
 fn name_of(bytes: &[u8]) -> Name
     ensures { λ r. ⌜ r .0 ≡ Told.nameOf (now (bytes .entry)) ⌝ }

@@ -1,13 +1,13 @@
 // Parts of a block, by their places.
-use crate::answers::refuse;
-use crate::answers::tell_part;
 use nitro::tex;
 use nitro::tex::Located;
 use nitro::tex::PaletteChoice;
 use nitro::tex::Placed;
+use told::refuse;
+use told::tell_part;
 use util::cur::part_at;
 ghost use mathlib.Core.Path.{_≡_};
-ghost use Rattle.capi.specs.Told as Told;
+ghost use Rattle.told.specs.Told as Told;
 
 // Where in the block the data of texture n are, or a block-compressed texture's first data, and how long it is. An empty part begins at 0.
 #[no_mangle]

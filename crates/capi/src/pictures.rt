@@ -1,14 +1,14 @@
 // Direct decoding, and pictures from a block. Where has_palette is 0 there is no palette.
-use crate::answers::choice_of;
-use crate::answers::off_of;
-use crate::answers::tell_count;
-use crate::answers::tell_len;
 use decode::decode_texture::decode_texture;
 use decode::picture::picture;
 use nds::texture_params::TextureParams;
+use told::choice_of;
+use told::off_of;
+use told::tell_count;
+use told::tell_len;
 ghost use mathlib.Core.Path.{_≡_};
 ghost use Rattle.errors.specs.Output.{writeOutcome, writeOutput};
-ghost use Rattle.capi.specs.Told as Told;
+ghost use Rattle.told.specs.Told as Told;
 
 // Decodes a texture by its word and data, with the palette at palette_off of a palette block.
 #[no_mangle]

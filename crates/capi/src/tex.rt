@@ -1,18 +1,18 @@
 // Readings and records.
-use crate::answers::alpha_number;
-use crate::answers::refuse;
-use crate::answers::tell_counts;
-use crate::answers::wrap_number;
 use errors::Refusal;
 use errors::Status;
 use name::Name;
 use nitro::tex;
 use text::put;
+use told::alpha_number;
+use told::refuse;
+use told::tell_counts;
+use told::wrap_number;
 ghost use mathlib.Core.Path.{_≡_};
 ghost use mathlib.Core.List.{_++_};
 ghost use Prim.Native.Nat.{_≤_};
 ghost use lib.ListN.{length, drop};
-ghost use Rattle.capi.specs.Told as Told;
+ghost use Rattle.told.specs.Told as Told;
 
 // Reads the block: how many textures and palettes it has.
 #[no_mangle]

@@ -1,12 +1,12 @@
 // What a texture word says. No call is declined.
-use crate::answers::alpha_number;
-use crate::answers::wrap_number;
 use nds::texture_params::TextureParams;
+use told::alpha_number;
+use told::wrap_number;
 ghost use mathlib.Core.Path.{_≡_};
 ghost use Rattle.nds.specs.Formats as Formats;
 ghost use Rattle.nds.specs.Params as Params;
 ghost use Rattle.nds.specs.Wrap.{wrapOf};
-ghost use Rattle.capi.specs.Told as Told;
+ghost use Rattle.told.specs.Told as Told;
 
 // In bytes.
 #[no_mangle]

@@ -135,7 +135,7 @@ module _ (s : Sources) where
       either true a b ha hb = ha
       either false a b ha hb = hb
 
-  length-picture : length (pictureBytes s) ≡ pictureLength (s .word)
+  pub length-picture : length (pictureBytes s) ≡ pictureLength (s .word)
   unfolding pictureBytes
   length-picture = length-quads (texel s) (texelCount (s .word)) (λ i l. texel-four i)
 

@@ -81,8 +81,8 @@ fn put_list(out: &mut [u8], at: usize, block: &[u8], kind: Kind, count: usize) -
     at
 }
 
-// The line of a refusal: its number and the value returned beside it.
-fn put_refused(out: &mut [u8], at: usize, number: usize, returned: usize) -> usize
+// The line of a refusal: its number and the value returned beside it. The caller shows that there is room.
+pub fn put_refused(out: &mut [u8], at: usize, number: usize, returned: usize) -> usize
     requires { ⌜ Room (Listing.refusedLine number returned) (now out) at ⌝ }
     ensures { λ r. ⌜ Put (Listing.refusedLine number returned) (now (out .entry)) at (now (out .exit)) r ⌝ }
 {

@@ -28,7 +28,7 @@ returns c =
     let p = c .before .before .before .before in
     let l = p .before .before .before in
     let told = data2-told _ _ (rw (l .places .given .1) at (l .before .before .locate .ensures)) in
-    rw (← told, ← p .part-at .ensures) (c .tell-part .ensures)
+    rw (← told) (rw (p .part-at .ensures) at (c .tell-part .ensures))
 
 returns-2 : tie.Need-returns-2
 returns-2 c =

@@ -1,7 +1,7 @@
 -- `capi::words::rasclanya_alpha_type` meets its contract. Assumes nothing.
 use mathlib.Core.Path.{ap, _∙_}
 use borrow.Author.Needs.{needs}
-use Rattle.capi.specs.Told.{alphaNumber}
+use Rattle.told.specs.Told.{alphaNumber}
 use Rattle.capi.proofs.words.rasclanya_alpha_type.Statement.{statement}
 use Rattle.capi.proofs.words.rasclanya_alpha_type.Tie as tie
 

@@ -1,0 +1,7 @@
+pub mod Bounds
+pub mod Examples
+pub mod Headers
+pub mod Images
+pub mod Limits
+pub mod Shows
+pub mod Spellings

@@ -1,0 +1,140 @@
+// A picture of a TEX0 block as a PAM image: Netpbm's format for pictures with alpha, which stock viewers and converters read.
+pub mod arguments;
+
+use decode::picture::picture;
+use errors::Counted;
+use listing::put_refused;
+use nds::texture_params::TextureParams;
+use nitro::tex::Located;
+use nitro::tex::PaletteChoice;
+use nitro::tex::locate;
+use text::put;
+use text::put_field;
+use text::put_number;
+ghost use Prim.Native.Nat.{min};
+ghost use mathlib.Core.Path.{_≡_};
+ghost use mathlib.Core.List.{[], _∷_};
+ghost use lib.ListN.{length};
+ghost use Rattle.io.specs.Counts.{Counts};
+ghost use Rattle.util.specs.Outcome.{result};
+ghost use Rattle.errors.specs.Output.{Writes};
+ghost use Rattle.errors.specs.Refusal.{countedOutcome};
+ghost use Rattle.info_block.specs.Script.{run};
+ghost use Rattle.nitro.specs.Tex.{readTex};
+ghost use Rattle.text.specs.Text.{decimal, line};
+ghost use Rattle.text.specs.Put.{Room, Put};
+ghost use Rattle.pam.specs.Pam as Pam;
+
+// The longest file that is read, in bytes: 3 MiB.
+pub const MAX_BLOCK: usize = 3145728;
+
+// No image is longer than this, in bytes: a header of 71 bytes, and 4 for each of 1024 times 1024 texels.
+pub const MAX_PAM: usize = 4194375;
+
+// What was written to an output: an image, or the line of a refusal.
+pub struct Shown {
+    pub refused: bool,
+    // In bytes.
+    pub len: usize,
+}
+
+// A line of a word and a number.
+fn put_number_line(out: &mut [u8], at: usize, word: &[u8], n: usize) -> usize
+    requires { ⌜ Room (line (now word ∷ decimal n ∷ [])) (now out) at ⌝ }
+    ensures { λ r. ⌜ Put (line (now (word .entry) ∷ decimal n ∷ [])) (now (out .entry)) at (now (out .exit)) r ⌝ }
+{
+    let at = put_field(out, at, word, b" ");
+    put_number(out, at, n, b"\n")
+}
+
+// The header of a picture of the word's size.
+fn put_header(out: &mut [u8], at: usize, params: TextureParams) -> usize
+    requires { ⌜ Room (Pam.headerText (params .0)) (now out) at ⌝ }
+    ensures { λ r. ⌜ Put (Pam.headerText (params .0)) (now (out .entry)) at (now (out .exit)) r ⌝ }
+{
+    let width = params.width();
+    let height = params.height();
+    let at = put(out, at, b"P7\n");
+    let at = put_number_line(out, at, b"WIDTH", width as usize);
+    let at = put_number_line(out, at, b"HEIGHT", height as usize);
+    put(
+        out,
+        at,
+        b"DEPTH 4\nMAXVAL 255\nTUPLTYPE RGB_ALPHA\nENDHDR\n",
+    )
+}
+
+// How many digits a number has.
+fn digit_count(n: usize) -> usize
+    ensures { λ r. ⌜ r ≡ length (decimal n) ⌝ }
+{
+    let mut digits = [0u8; 20];
+    io::decimal(n as u64, &mut digits)
+}
+
+// The header's length: 63 bytes, and the digits of the width and of the height.
+fn header_len(params: TextureParams) -> usize
+    ensures { λ r. ⌜ r ≡ length (Pam.headerText (params .0)) ⌝ }
+{
+    let width = params.width();
+    let height = params.height();
+    63 + digit_count(width as usize) + digit_count(height as usize)
+}
+
+fn least(a: usize, b: usize) -> usize
+    ensures { λ r. ⌜ r ≡ min a b ⌝ }
+{
+    if a < b { a } else { b }
+}
+
+// Writes the picture of texture n with the chosen palette to the output as a PAM image, and returns the image's length in bytes. The picture
+// is decoded to its place behind the header. An output that has no room for the header has none for a picture behind it.
+pub fn pam(block: &[u8], n: usize, choice: PaletteChoice, out: &mut [u8]) -> Counted
+    ensures { λ r. ⌜ Writes (Pam.pamOf n choice (run readTex (now (block .entry)))) (now (out .entry)) (countedOutcome r) (now (out .exit)) ⌝ }
+{
+    match locate(block, n, choice) {
+        Located::Refused(refusal) => Counted::Refused(refusal),
+        Located::Found(places) => {
+            let params = places.params;
+            let at = least(header_len(params), out.len());
+            match picture(block, n, choice, &mut out[at..]) {
+                Counted::Refused(refusal) => Counted::Refused(refusal),
+                Counted::Count(len) => {
+                    let whole = put_header(out, 0, params) + len;
+                    Counted::Count(whole)
+                }
+            }
+        }
+    }
+}
+
+// Whether the input is too long to be read.
+fn is_too_long(input: &[u8]) -> bool
+    ensures { λ r. ⌜ r ≡ Pam.tooLong (now (input .entry)) ⌝ }
+{
+    MAX_BLOCK < input.len()
+}
+
+// Writes the picture as a PAM image, or else the line of the refusal, to an output that has room for each.
+pub fn show(input: &[u8], n: usize, choice: PaletteChoice, out: &mut [u8; MAX_PAM]) -> Shown
+    ensures { λ r. ⌜ r ≡ Pam.shownAs (Pam.shownOutcome (now (input .entry)) n choice) ⌝ }
+    ensures { λ r. ⌜ Writes (result (Pam.shownText (now (input .entry)) n choice)) (now (out .entry)) (result (r .len)) (now (out .exit)) ⌝ }
+    ensures { λ r. ⌜ Counts (r .len) (now (out .exit)) ⌝ }
+{
+    if is_too_long(input) {
+        return Shown {
+            refused: true,
+            len: put_refused(out, 0, 13, 0),
+        };
+    }
+    match pam(input, n, choice, out) {
+        Counted::Count(len) => Shown {
+            refused: false,
+            len,
+        },
+        Counted::Refused(refusal) => Shown {
+            refused: true,
+            len: put_refused(out, 0, refusal.number(), refusal.returned()),
+        },
+    }
+}

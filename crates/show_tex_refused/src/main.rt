@@ -1,0 +1,1 @@
+../../show_tex/src/main.rt
