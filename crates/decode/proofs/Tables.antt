@@ -1,17 +1,18 @@
 -- The laws of a palette written out as a table of texels, and of the texels that are taken from it. Assumes nothing.
-use Prim.Native.Nat.{ℕ, _*_, _/_, _%_, _^_, _≤_, _<_}
-use mathlib.Core.Path.{_≡_, refl, sym}
-use mathlib.Core.Bool.{Bool, false}
+use Prim.Native.Nat.{ℕ, _+_, _*_, _/_, _%_, _^_, _≤_, _<_}
+use mathlib.Core.Path.{_≡_, refl, sym, ap, _∙_}
+use mathlib.Core.Bool.{Bool, true, false}
 use mathlib.Core.List.{List}
-use native.Mathlib.Nat.{le-of-lt, lt-of-le-of-lt, mul-le-mul, mod-lt}
+use native.Mathlib.Nat.{le-of-lt, lt-of-le-of-lt, mul-le-mul, mod-lt, not-suc-le-zero}
 use native.Mathlib.Omega.{arith}
-use lib.ListN.{length, take, drop, getD, length-drop}
-use lib.Seq.{length-take-le}
-use lib.Dec.{lit<}
+use lib.ListN.{length, take, drop, getD, set, replicate, length-drop, length-set}
+use lib.Seq.{length-take-le, getD-set-same, getD-set-other}
+use lib.Dec.{ltb, lit<}
+use borrow.Author.Tests.{ltb-true, ltb-false}
 use lib.Bits.{bitAnd, and-mask}
 use lib.Pow.{pow-pos}
 use Rattle.decode.specs.Texels.{pixel, paletteColor, texelBits, alpha3, format1, indexed, formats2to4, format6}
-use Rattle.decode.specs.Steps.{painted, withAlpha, indexedTexel, IndexThere, IndexedFits}
+use Rattle.decode.specs.Steps.{painted, withAlpha, indexedTexel, AllBytes, IndexThere, IndexedFits}
 use Rattle.decode.proofs.Quads.{Fours, painted-at, painted-room}
 use Rattle.decode.proofs.Rows.{row-below}
 use Rattle.decode.proofs.Texels.{indexed-four}
@@ -57,6 +58,37 @@ index-there bits count length1 output n f h = record {
   small = omega arith;
   there = omega (arith, row-below bits n count h);
 }
+
+-- the bytes in order, the first i of them
+pub record BytesTo (i : ℕ) (bytes : List ℕ) : Type 0 where
+  pub long : length bytes ≡ 256
+  pub at : (k : ℕ) → k < i → getD bytes k 0 ≡ k
+
+pub bytes-none : BytesTo 0 (replicate 256 0)
+bytes-none = record { long = refl; at = λ k h. absurd (not-suc-le-zero h) }
+
+pub bytes-more : {i : ℕ} {bytes : List ℕ} → BytesTo i bytes → i < 256 → BytesTo (i + 1) (set bytes i i)
+bytes-more {i} {bytes} b within = record { long = length-set bytes i i ∙ b .long; at = λ k h. go k h (ltb k i) refl }
+  where
+    go : (k : ℕ) → k < i + 1 → (t : Bool) → ltb k i ≡ t → getD (set bytes i i) k 0 ≡ k
+    go k h true e = getD-set-other bytes i k i 0 (λ same. omega (arith, same, ltb-true k i e)) ∙ b .at k (ltb-true k i e)
+    go k h false e =
+        let same : k ≡ i = omega (arith, ltb-false k i e) in
+        rw same (getD-set-same bytes i i 0 (omega (arith, b .long)))
+
+-- a texel that is its byte's, from a table of the texels of all bytes
+module _ (texel : ℕ → List ℕ) (four : (k : ℕ) → length (texel k) ≡ 4) (bytes before : List ℕ) {table : List ℕ} where
+  pub byte-texel : AllBytes bytes → table ≡ painted (λ n. texel (getD bytes n 0)) 256 before → (texels : List ℕ) (n : ℕ)
+      → getD texels n 0 < 256 → texel (getD texels n 0) ≡ indexedTexel 8 texels table n
+  unfolding texelBits
+  byte-texel all e texels n byte =
+      let x = getD texels n 0 in
+      let at : n * 8 / 8 ≡ n = omega arith in
+      let whole : n * 8 % 8 ≡ 0 = omega arith in
+      let index : getD texels (n * 8 / 8) 0 / 2 ^ (n * 8 % 8) % 2 ^ 8 ≡ x = rw (at, whole) (omega (arith, byte)) in
+      sym
+      (rw index
+      (rw e (painted-at (λ n. texel (getD bytes n 0)) 256 x before (λ k l. four (getD bytes k 0)) byte) ∙ ap texel (all .at x byte)))
 
 -- formats 1 and 6: its colour is
 other-alpha : (color a : ℕ) → withAlpha (pixel color 31) a ≡ pixel color a

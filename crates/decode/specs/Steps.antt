@@ -4,7 +4,7 @@ use Prim.Native.Nat.{ℕ, _+_, _*_, _/_, _%_, _^_, _≤_, _<_}
 use mathlib.Core.Path.{_≡_}
 use mathlib.Core.Bool.{Bool, cond}
 use mathlib.Core.List.{List, [], _∷_, _++_}
-use lib.ListN.{take, drop, getD}
+use lib.ListN.{length, take, drop, getD}
 use lib.Seq.{sets}
 use lib.Dec.{ltb}
 use Rattle.util.specs.Outcome.{Outcome, result, refusal, _>>=_}
@@ -38,6 +38,11 @@ pixelAt table k = take 4 (drop (4 * k) table)
 -- Texel n, where its colour index is taken from the data and the texel from the table.
 abbrev pub indexedTexel : (bits : ℕ) (data1 table : List ℕ) (n : ℕ) → List ℕ
 indexedTexel bits data1 table n = pixelAt table (texelBits bits data1 n)
+
+-- The bytes in order.
+pub record AllBytes (bytes : List ℕ) : Type 0 where
+  pub long : 256 ≡ length bytes
+  pub at : (k : ℕ) → k < 256 → getD bytes k 0 ≡ k
 
 -- A texel of `bits` bits is there, and so are all, with room for them.
 pub record IndexThere (bits n length1 : ℕ) : Type 0 where

@@ -137,8 +137,8 @@ fn with_alpha(pixel: [u8; 4], a5: u8) -> [u8; 4]
     [pixel[0], pixel[1], pixel[2], extend_5bit_to_8bit(a5)]
 }
 
-// A3I5 translucent texture: 3-bit alpha, 5-bit colour index.
-fn decode_format1(out: &mut [u8], num_texels: usize, data1: &[u8], pal: &[u8], off: u32)
+// A3I5 translucent texture, each texel by itself.
+fn decode_small_format1(out: &mut [u8], num_texels: usize, data1: &[u8], pal: &[u8], off: u32)
     requires { ⌜ (4 * «num_texels» ≤ length (now out)) × («num_texels» ≤ length (now data1)) ⌝ }
     ensures { λ r. ⌜ now (out .exit) ≡ Steps.painted (Texels.format1 (now (data1 .entry)) (now (pal .entry)) off) «num_texels» (now (out .entry)) ⌝ }
 {
@@ -171,6 +171,42 @@ fn put_indexed(out: &mut [u8], num_texels: usize, data1: &[u8], bits: usize, tab
     while n < num_texels {
         put_pixel(out, n, pixel_at(table, index_at(data1, bits, n) as usize));
         n += 1;
+    }
+}
+
+// Every byte, in order.
+fn all_bytes() -> [u8; 256]
+    ensures { λ r. ⌜ Steps.AllBytes r ⌝ }
+{
+    let mut bytes = [0u8; 256];
+    let mut i: usize = 0;
+    while i < 256 {
+        bytes[i] = i as u8;
+        i += 1;
+    }
+    bytes
+}
+
+// A3I5 translucent texture, by a table of the texels of all bytes.
+fn decode_large_format1(out: &mut [u8], num_texels: usize, data1: &[u8], pal: &[u8], off: u32)
+    requires { ⌜ Steps.IndexedFits 8 «num_texels» (length (now data1)) (length (now out)) ⌝ }
+    ensures { λ r. ⌜ now (out .exit) ≡ Steps.painted (Texels.format1 (now (data1 .entry)) (now (pal .entry)) off) «num_texels» (now (out .entry)) ⌝ }
+{
+    let bytes = all_bytes();
+    let mut table = [0u8; 1024];
+    decode_small_format1(&mut table, 256, &bytes, pal, off);
+    put_indexed(out, num_texels, data1, 8, &table);
+}
+
+// A3I5 translucent texture: 3-bit alpha, 5-bit colour index. The table is worth its making where there are more texels than bytes.
+fn decode_format1(out: &mut [u8], num_texels: usize, data1: &[u8], pal: &[u8], off: u32)
+    requires { ⌜ Steps.IndexedFits 8 «num_texels» (length (now data1)) (length (now out)) ⌝ }
+    ensures { λ r. ⌜ now (out .exit) ≡ Steps.painted (Texels.format1 (now (data1 .entry)) (now (pal .entry)) off) «num_texels» (now (out .entry)) ⌝ }
+{
+    if num_texels < 512 {
+        decode_small_format1(out, num_texels, data1, pal, off)
+    } else {
+        decode_large_format1(out, num_texels, data1, pal, off)
     }
 }
 
@@ -461,8 +497,8 @@ fn decode_format5(
     }
 }
 
-// A5I3 translucent texture: 5-bit alpha, 3-bit colour index.
-fn decode_format6(out: &mut [u8], num_texels: usize, data1: &[u8], pal: &[u8], off: u32)
+// A5I3 translucent texture, each texel by itself.
+fn decode_small_format6(out: &mut [u8], num_texels: usize, data1: &[u8], pal: &[u8], off: u32)
     requires { ⌜ (4 * «num_texels» ≤ length (now out)) × («num_texels» ≤ length (now data1)) ⌝ }
     ensures { λ r. ⌜ now (out .exit) ≡ Steps.painted (Texels.format6 (now (data1 .entry)) (now (pal .entry)) off) «num_texels» (now (out .entry)) ⌝ }
 {
@@ -474,6 +510,29 @@ fn decode_format6(out: &mut [u8], num_texels: usize, data1: &[u8], pal: &[u8], o
         let color = pixel_at(&table, (x & 7) as usize);
         put_pixel(out, n, with_alpha(color, x >> 3));
         n += 1;
+    }
+}
+
+// A5I3 translucent texture, by a table of the texels of all bytes.
+fn decode_large_format6(out: &mut [u8], num_texels: usize, data1: &[u8], pal: &[u8], off: u32)
+    requires { ⌜ Steps.IndexedFits 8 «num_texels» (length (now data1)) (length (now out)) ⌝ }
+    ensures { λ r. ⌜ now (out .exit) ≡ Steps.painted (Texels.format6 (now (data1 .entry)) (now (pal .entry)) off) «num_texels» (now (out .entry)) ⌝ }
+{
+    let bytes = all_bytes();
+    let mut table = [0u8; 1024];
+    decode_small_format6(&mut table, 256, &bytes, pal, off);
+    put_indexed(out, num_texels, data1, 8, &table);
+}
+
+// A5I3 translucent texture: 5-bit alpha, 3-bit colour index. The table is worth its making where there are more texels than bytes.
+fn decode_format6(out: &mut [u8], num_texels: usize, data1: &[u8], pal: &[u8], off: u32)
+    requires { ⌜ Steps.IndexedFits 8 «num_texels» (length (now data1)) (length (now out)) ⌝ }
+    ensures { λ r. ⌜ now (out .exit) ≡ Steps.painted (Texels.format6 (now (data1 .entry)) (now (pal .entry)) off) «num_texels» (now (out .entry)) ⌝ }
+{
+    if num_texels < 512 {
+        decode_small_format6(out, num_texels, data1, pal, off)
+    } else {
+        decode_large_format6(out, num_texels, data1, pal, off)
     }
 }
 

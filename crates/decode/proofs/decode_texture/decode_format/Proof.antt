@@ -49,7 +49,7 @@ data-there c f e =
 seven : (c : tie.At-match-rest) → format (start (c .before) .args .params .0) ≡ 7
 seven c = omega (arith, c .before .format .ensures, start (c .before) .pre .some)
 
--- formats 2 to 4, by the bits of a texel: n texels, no more than the picture has
+-- formats 1 to 4 and 6, by the bits of a texel: n texels, no more than the picture has
 fits : (c : tie.After-format) (bits n : ℕ) → n ≤ c .before .before .before .num-texels .result
     → 0 < bits → bits ≤ 8 → n * bits ≤ 8 * length (now (start c .args .data1))
     → IndexedFits bits n (length (now (start c .args .data1))) (length (now (start c .args .out)))
@@ -61,7 +61,7 @@ decode-format1-requires : tie.Need-decode-format1-requires
 decode-format1-requires c κs =
     let f = c .before .before in
     let there = data-there f 1 (omega (arith, f .format .ensures)) in
-    (omega (arith, room f), omega (arith, eights (start f .args .params .0) .texels, texel-count f))
+    fits f 8 _ (omega arith) (omega arith) (omega arith) (omega (arith, eights (start f .args .params .0) .texels, texel-count f))
 
 decode-format2-requires : tie.Need-decode-format2-requires
 decode-format2-requires c κs =
@@ -113,7 +113,7 @@ decode-format6-requires : tie.Need-decode-format6-requires
 decode-format6-requires c κs =
     let f = c .before .before in
     let there = data-there f 6 (omega (arith, f .format .ensures)) in
-    (omega (arith, room f), omega (arith, eights (start f .args .params .0) .texels, texel-count f))
+    fits f 8 _ (omega arith) (omega arith) (omega arith) (omega (arith, eights (start f .args .params .0) .texels, texel-count f))
 
 decode-format7-requires : tie.Need-decode-format7-requires
 decode-format7-requires c κs =

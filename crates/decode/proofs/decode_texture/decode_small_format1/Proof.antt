@@ -1,4 +1,4 @@
--- `decode::decode_texture::decode_format1` meets its contract: texels are copied from the palette's table, with their own alpha. Assumes nothing.
+-- `decode::decode_texture::decode_small_format1` meets its contract: texels are copied from the palette's table, with their own alpha. Assumes nothing.
 use Prim.Native.Nat.{_+_, _-_, _*_, _≤_}
 use mathlib.Core.Path.{_≡_, _∙_}
 use mathlib.Core.Bool.{false}
@@ -11,8 +11,8 @@ use Rattle.decode.proofs.Quads.{Painting, paint-none, paint-more, paint
 use Rattle.decode.specs.Texels.{format1}
 use Rattle.decode.proofs.Tables.{Table, table-made, format1-texel}
 use Rattle.decode.proofs.Texels.{format1-four}
-use Rattle.decode.proofs.decode_texture.decode_format1.Statement.{statement}
-use Rattle.decode.proofs.decode_texture.decode_format1.Tie as tie
+use Rattle.decode.proofs.decode_texture.decode_small_format1.Statement.{statement}
+use Rattle.decode.proofs.decode_texture.decode_small_format1.Tie as tie
 
 abbrev Inv-loop : tie.InvT-loop
 Inv-loop out₀ num-texels data1 pal off table n₀ out n = (n ≤ num-texels) × Painting (format1 data1 pal off) n out₀ out
@@ -106,8 +106,8 @@ returns c =
     let done : l .loop .n ≡ start l .args .num-texels = omega arith in
     rw (← done) (painted-all _ _ (l .loop .inv .1))
 
-pub decode-format1-spec : {M : Type 1} → statement M
-decode-format1-spec =
+pub decode-small-format1-spec : {M : Type 1} → statement M
+decode-small-format1-spec =
     tie.close
     (tie.spec
     Inv-loop
