@@ -4,3 +4,4 @@ pub mod Quads
 pub mod Rows
 pub mod Tables
 pub mod Texels
+pub mod Words

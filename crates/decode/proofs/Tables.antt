@@ -12,7 +12,7 @@ use borrow.Author.Tests.{ltb-true, ltb-false}
 use lib.Bits.{bitAnd, and-mask}
 use lib.Pow.{pow-pos}
 use Rattle.decode.specs.Texels.{pixel, paletteColor, texelBits, alpha3, format1, indexed, formats2to4, format6}
-use Rattle.decode.specs.Steps.{painted, withAlpha, indexedTexel, AllBytes, IndexThere, IndexedFits}
+use Rattle.decode.specs.Steps.{painted, withAlpha, indexedTexel, Tabled, itself, IndexThere, IndexedFits}
 use Rattle.decode.proofs.Quads.{Fours, painted-at, painted-room}
 use Rattle.decode.proofs.Rows.{row-below}
 use Rattle.decode.proofs.Texels.{indexed-four}
@@ -59,26 +59,30 @@ index-there bits count length1 output n f h = record {
   there = omega (arith, row-below bits n count h);
 }
 
--- the bytes in order, the first i of them
-pub record BytesTo (i : ℕ) (bytes : List ℕ) : Type 0 where
-  pub long : length bytes ≡ 256
-  pub at : (k : ℕ) → k < i → getD bytes k 0 ≡ k
+-- a table of what a rule gives for each byte, the first i of them
+pub record TabledTo (rule : ℕ → ℕ) (i : ℕ) (table : List ℕ) : Type 0 where
+  pub long : length table ≡ 256
+  pub at : (k : ℕ) → k < i → getD table k 0 ≡ rule k
 
-pub bytes-none : BytesTo 0 (replicate 256 0)
-bytes-none = record { long = refl; at = λ k h. absurd (not-suc-le-zero h) }
+module _ (rule : ℕ → ℕ) where
+  pub tabled-none : TabledTo rule 0 (replicate 256 0)
+  tabled-none = record { long = refl; at = λ k h. absurd (not-suc-le-zero h) }
 
-pub bytes-more : {i : ℕ} {bytes : List ℕ} → BytesTo i bytes → i < 256 → BytesTo (i + 1) (set bytes i i)
-bytes-more {i} {bytes} b within = record { long = length-set bytes i i ∙ b .long; at = λ k h. go k h (ltb k i) refl }
-  where
-    go : (k : ℕ) → k < i + 1 → (t : Bool) → ltb k i ≡ t → getD (set bytes i i) k 0 ≡ k
-    go k h true e = getD-set-other bytes i k i 0 (λ same. omega (arith, same, ltb-true k i e)) ∙ b .at k (ltb-true k i e)
-    go k h false e =
-        let same : k ≡ i = omega (arith, ltb-false k i e) in
-        rw same (getD-set-same bytes i i 0 (omega (arith, b .long)))
+  pub tabled-more : {i x : ℕ} {table : List ℕ} → TabledTo rule i table → i < 256 → x ≡ rule i → TabledTo rule (i + 1) (set table i x)
+  tabled-more {i} {x} {table} t within is = record { long = length-set table i x ∙ t .long; at = λ k h. go k h (ltb k i) refl }
+    where
+      go : (k : ℕ) → k < i + 1 → (b : Bool) → ltb k i ≡ b → getD (set table i x) k 0 ≡ rule k
+      go k h true e = getD-set-other table i k x 0 (λ same. omega (arith, same, ltb-true k i e)) ∙ t .at k (ltb-true k i e)
+      go k h false e =
+          let same : k ≡ i = omega (arith, ltb-false k i e) in
+          rw same (getD-set-same table i x 0 (omega (arith, t .long)) ∙ is)
+
+  pub tabled-all : {i : ℕ} {table : List ℕ} → TabledTo rule i table → 256 ≤ i → Tabled rule table
+  tabled-all t h = record { long = sym (t .long); at = λ k l. t .at k (omega arith) }
 
 -- a texel that is its byte's, from a table of the texels of all bytes
 module _ (texel : ℕ → List ℕ) (four : (k : ℕ) → length (texel k) ≡ 4) (bytes before : List ℕ) {table : List ℕ} where
-  pub byte-texel : AllBytes bytes → table ≡ painted (λ n. texel (getD bytes n 0)) 256 before → (texels : List ℕ) (n : ℕ)
+  pub byte-texel : Tabled itself bytes → table ≡ painted (λ n. texel (getD bytes n 0)) 256 before → (texels : List ℕ) (n : ℕ)
       → getD texels n 0 < 256 → texel (getD texels n 0) ≡ indexedTexel 8 texels table n
   unfolding texelBits
   byte-texel all e texels n byte =

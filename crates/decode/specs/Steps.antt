@@ -39,10 +39,25 @@ pixelAt table k = take 4 (drop (4 * k) table)
 abbrev pub indexedTexel : (bits : ℕ) (data1 table : List ℕ) (n : ℕ) → List ℕ
 indexedTexel bits data1 table n = pixelAt table (texelBits bits data1 n)
 
--- The bytes in order.
-pub record AllBytes (bytes : List ℕ) : Type 0 where
-  pub long : 256 ≡ length bytes
-  pub at : (k : ℕ) → k < 256 → getD bytes k 0 ≡ k
+-- A table of what a rule gives for each byte.
+pub record Tabled (rule : ℕ → ℕ) (table : List ℕ) : Type 0 where
+  pub long : 256 ≡ length table
+  pub at : (k : ℕ) → k < 256 → getD table k 0 ≡ rule k
+
+-- The rule of the bytes themselves.
+abbrev pub itself : ℕ → ℕ
+itself b = b
+
+-- A texel's four bytes as a number, the first counting once. Of a texel of format 7 the low byte of its colour gives red and the lower three bits of
+-- green, and the high byte the upper two bits of green, blue and alpha. Green's bits widen apart: 8v + v/4 of v = l + 8u is 8l + l/4 + 66u.
+abbrev pub lowWord : (b : ℕ) → ℕ
+lowWord b = widen (b % 32) + 256 * widen (b / 32)
+
+abbrev pub highWord : (b : ℕ) → ℕ
+highWord b = 256 * (66 * (b % 4)) + 65536 * widen (b / 4 % 32) + 16777216 * (255 * (b / 128))
+
+abbrev pub quadOf : (word : ℕ) → List ℕ
+quadOf word = word % 256 ∷ word / 256 % 256 ∷ word / 65536 % 256 ∷ word / 16777216 % 256 ∷ []
 
 -- A texel of `bits` bits is there, and so are all, with room for them.
 pub record IndexThere (bits n length1 : ℕ) : Type 0 where

@@ -1,19 +1,20 @@
 -- `decode::decode_texture::all_bytes` meets its contract: the loop writes byte after byte. Assumes nothing.
 use Prim.Native.Nat.{_-_, _≤_}
-use mathlib.Core.Path.{sym}
+use mathlib.Core.Path.{refl}
 use native.Mathlib.Omega.{arith}
-use Rattle.decode.proofs.Tables.{BytesTo, bytes-none, bytes-more}
+use Rattle.decode.specs.Steps.{itself}
+use Rattle.decode.proofs.Tables.{TabledTo, tabled-none, tabled-more, tabled-all}
 use Rattle.decode.proofs.decode_texture.all_bytes.Statement.{statement}
 use Rattle.decode.proofs.decode_texture.all_bytes.Tie as tie
 
 abbrev Inv-loop : tie.InvT-loop
-Inv-loop bytes₀ i₀ bytes i = (i ≤ 256) × BytesTo i bytes
+Inv-loop bytes₀ i₀ bytes i = (i ≤ 256) × TabledTo itself i bytes
 
 abbrev μ-loop : tie.MeasureT-loop
 μ-loop bytes₀ i₀ bytes i = 256 - i
 
 loop-holds : tie.Need-loop-holds Inv-loop μ-loop
-loop-holds c = (omega arith, bytes-none)
+loop-holds c = (omega arith, tabled-none itself)
 
 cast-bytes : tie.Need-cast-bytes Inv-loop μ-loop
 cast-bytes c = omega arith
@@ -28,12 +29,10 @@ loop-less : tie.Need-loop-less Inv-loop μ-loop
 loop-less c = omega arith
 
 loop-again : tie.Need-loop-again Inv-loop μ-loop
-loop-again c = (omega arith, bytes-more (c .before .loop .inv .1) (omega arith))
+loop-again c = (omega arith, tabled-more itself (c .before .loop .inv .1) (omega arith) refl)
 
 returns : tie.Need-returns Inv-loop μ-loop
-returns c =
-    let b = c .before .loop .inv .1 in
-    record { long = sym (b .long); at = λ k h. b .at k (omega arith) }
+returns c = tabled-all itself (c .before .loop .inv .1) (omega arith)
 
 pub all-bytes-spec : {M : Type 1} → statement M
 all-bytes-spec =

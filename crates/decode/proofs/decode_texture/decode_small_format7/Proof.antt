@@ -1,4 +1,4 @@
--- `decode::decode_texture::decode_format7` meets its contract: the loop writes texel after texel. Assumes nothing.
+-- `decode::decode_texture::decode_small_format7` meets its contract: the loop writes texel after texel. Assumes nothing.
 use Prim.Native.Nat.{_+_, _-_, _*_, _≤_}
 use mathlib.Core.Path.{_≡_, _∙_}
 use native.Mathlib.Omega.{arith}
@@ -8,8 +8,8 @@ use Rattle.errors.proofs.Outputs.{wrote-length}
 use Rattle.decode.proofs.Quads.{Painting, paint-none, paint-more, painted-all}
 use Rattle.decode.specs.Texels.{format7}
 use Rattle.decode.proofs.Texels.{format7-four}
-use Rattle.decode.proofs.decode_texture.decode_format7.Statement.{statement}
-use Rattle.decode.proofs.decode_texture.decode_format7.Tie as tie
+use Rattle.decode.proofs.decode_texture.decode_small_format7.Statement.{statement}
+use Rattle.decode.proofs.decode_texture.decode_small_format7.Tie as tie
 
 abbrev Inv-loop : tie.InvT-loop
 Inv-loop out₀ num-texels data1 n₀ out n = (n ≤ num-texels) × Painting (format7 data1) n out₀ out
@@ -69,8 +69,8 @@ returns c =
     let done : l .loop .n ≡ l .before .before .before .args .num-texels = omega arith in
     rw (← done) (painted-all _ _ (l .loop .inv .1))
 
-pub decode-format7-spec : {M : Type 1} → statement M
-decode-format7-spec =
+pub decode-small-format7-spec : {M : Type 1} → statement M
+decode-small-format7-spec =
     tie.close
     (tie.spec
     Inv-loop
