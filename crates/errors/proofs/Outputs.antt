@@ -1,17 +1,17 @@
 -- The laws of an output that is written piece after piece, and of the two cases of `Writes`. Assumes nothing.
-use Prim.Native.Nat.{ℕ, suc, _+_, _≤_, _<_}
+use Prim.Native.Nat.{ℕ, zero, suc, _+_, _*_, _≤_, _<_}
 use mathlib.Core.Path.{_≡_, refl, _∙_}
 use mathlib.Core.Bool.{Bool, true, false}
-use mathlib.Core.List.{List, [], _∷_, _++_, append-nil}
-use native.Mathlib.Nat.{add-zero, add-suc, suc-add}
+use mathlib.Core.List.{List, [], _∷_, _++_, append-nil, append-assoc}
+use native.Mathlib.Nat.{add-zero, zero-add, add-suc, suc-add, zero-mul, suc-mul}
 use native.Mathlib.Omega.{arith}
-use lib.ListN.{length, take, drop, set, length-append, length-drop, drop-of-length-le}
+use lib.ListN.{length, take, drop, set, getD, length-append, length-drop, drop-of-length-le}
 use lib.Seq.{take-append-seam, drop-append-add, drop-drop, sets, sets-eq}
 use lib.Dec.{leb}
-use borrow.Author.Tests.{le-leb, lt-leb}
+use borrow.Author.Tests.{leb-true, leb-false, le-leb, lt-leb}
 use Rattle.util.specs.Outcome.{Outcome, result, refusal}
 use Rattle.errors.specs.Refusal.{refusalOutcome}
-use Rattle.errors.specs.Output.{writeOutcome, writeOutput, Writes}
+use Rattle.errors.specs.Output.{writeOutcome, writeOutput, Writes, piecesFrom, pieces}
 use Rattle.errors.specs.declared.Refusal.{Refusal}
 use Rattle.errors.proofs.Refusals.{refusal-not, refusal-any}
 
@@ -64,6 +64,10 @@ module _ {text entry : List ℕ} {end : ℕ} {now : List ℕ} (w : Wrote text en
       let e = le-leb _ _ (w .fits) in
       record { outcome = rw (e, w .ends); output = rw e (w .holds) }
 
+-- a text that is written at once
+pub writes-sets : (text entry : List ℕ) → length text ≤ length entry → Writes (result text) entry (result (length text)) (sets entry 0 text)
+writes-sets text entry h = rw zero-add at (writes-fits (wrote-more (wrote-none entry) text (omega (arith, h))))
+
 -- and back: what a call that writes a text answers and leaves where there is room for it
 pub writes-whole : (text entry : List ℕ) {answer : Outcome ℕ} {exit : List ℕ} → length text ≤ length entry → Writes (result text) entry answer exit
     → (answer ≡ result (length text)) × Wrote text entry (length text) exit
@@ -92,3 +96,37 @@ refused-keeps {made = result bytes} {entry} {exit} w = go (leb (length bytes) (l
     go : (t : Bool) → leb (length bytes) (length entry) ≡ t → exit ≡ entry
     go true e = let z : _≡_ {A = ℕ} 0 1 = cc (rw e at (w .outcome)) in absurd (omega arith)
     go false e = rw e at (w .output)
+
+-- the first n pieces are a part of all
+module _ (f : ℕ → List ℕ) where
+  pub pieces-part : (n count : ℕ) → n ≤ count → length (pieces f n) ≤ length (pieces f count)
+  unfolding pieces
+  pieces-part n zero h = let e : n ≡ zero = omega arith in rw e (omega arith)
+  pieces-part n (suc count) h = go (leb n count) refl (λ q. pieces-part n count q)
+    where
+      go : (t : Bool) → leb n count ≡ t → (n ≤ count → length (pieces f n) ≤ length (pieces f count))
+          → length (pieces f n) ≤ length (pieces f (suc count))
+      go true q first = omega (arith, first (leb-true n count q), length-append (pieces f count) (f count))
+      go false q first = let e : n ≡ suc count = omega (arith, leb-false n count q) in rw e (omega arith)
+
+  -- pieces of one length
+  pub pieces-length : (m : ℕ) → ((n : ℕ) → length (f n) ≡ m) → (count : ℕ) → length (pieces f count) ≡ count * m
+  unfolding pieces
+  pieces-length m each zero = rw zero-mul
+  pieces-length m each (suc count) = rw (length-append, suc-mul) (omega (arith, each count, pieces-length m each count))
+
+-- by the first piece and the rest
+pieces-cons : (f : ℕ → List ℕ) (n : ℕ) → pieces f (suc n) ≡ f 0 ++ pieces (λ i. f (suc i)) n
+unfolding pieces
+pieces-cons f zero = rw append-nil
+pieces-cons f (suc n) = rw (pieces-cons f n, append-assoc)
+
+-- and by a list of which piece n has entry n
+pub pieces-listed : {A : Type 0} (piece : ℕ → A → List ℕ) (d : A) (xs : List A) (k : ℕ) (f : ℕ → List ℕ)
+    → ((n : ℕ) → n < length xs → f n ≡ piece (k + n) (getD xs n d)) → pieces f (length xs) ≡ piecesFrom k piece xs
+unfolding pieces piecesFrom
+pieces-listed piece d [] k f h = refl
+pieces-listed piece d (x ∷ xs) k f h =
+    let first : f 0 ≡ piece k x = h 0 (omega arith) ∙ rw add-zero in
+    let rest = pieces-listed piece d xs (suc k) (λ n. f (suc n)) (λ n q. h (suc n) (omega (arith, q)) ∙ rw (add-suc, suc-add)) in
+    pieces-cons f (length xs) ∙ rw (first, rest)

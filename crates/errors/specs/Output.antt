@@ -1,8 +1,8 @@
 -- Writing to a lent output. Assumes nothing.
-use Prim.Native.Nat.{ℕ}
+use Prim.Native.Nat.{ℕ, zero, suc}
 use mathlib.Core.Path.{_≡_}
 use mathlib.Core.Bool.{cond}
-use mathlib.Core.List.{List, _++_}
+use mathlib.Core.List.{List, [], _∷_, _++_}
 use lib.ListN.{length, drop}
 use lib.Dec.{leb}
 use Rattle.util.specs.Outcome.{Outcome, result, refusal}
@@ -22,3 +22,13 @@ writeOutput (refusal number returned) output = output
 pub record Writes (made : Outcome (List ℕ)) (entry : List ℕ) (answer : Outcome ℕ) (exit : List ℕ) : Type 0 where
   pub outcome : answer ≡ writeOutcome made entry
   pub output : exit ≡ writeOutput made entry
+
+-- What is made of a list's entries by their numbers, one behind the other.
+unfoldable pub piecesFrom : {A : Type 0} → (number : ℕ) → (ℕ → A → List ℕ) → List A → List ℕ
+piecesFrom number piece [] = []
+piecesFrom number piece (first ∷ later) = piece number first ++ piecesFrom (suc number) piece later
+
+-- The first n of pieces that are made by their numbers alone.
+unfoldable pub pieces : (piece : ℕ → List ℕ) (n : ℕ) → List ℕ
+pieces piece zero = []
+pieces piece (suc n) = pieces piece n ++ piece n

@@ -9,6 +9,7 @@ use native.Mathlib.Omega.{arith}
 use lib.ListN.{length, getD, length-append, length-map}
 use lib.Dec.{ltb, lit≤, lit<}
 use Rattle.util.specs.Outcome.{result, refusal}
+use Rattle.errors.specs.Output.{piecesFrom}
 use Rattle.errors.specs.Refusal.{Fault, badStamp, badDummy, badSize, faultNumber}
 use Rattle.errors.specs.declared.Kind.the-variants.{Texture, Palette}
 use Rattle.info_block.specs.Script.{Answer, short, fault, whole, run, outcomeOf}
@@ -18,7 +19,7 @@ use Rattle.nitro.proofs.Sizes.{want-small, textures-few, palettes-few, texture-
 use Rattle.text.specs.Text.{ascii, decimal, line}
 use Rattle.lines.specs.Lines.{textureLine, paletteLine}
 use Rattle.lines.proofs.Lengths.{texture-length, palette-length}
-use Rattle.listing.specs.Listing.{linesFrom, headed, listsOf}
+use Rattle.listing.specs.Listing.{headed, listsOf}
 use Rattle.listing.specs.Listing.{refusedLine, printed, listingOutcome, listingText}
 use Rattle.text.proofs.Decimals.{decimal-length}
 
@@ -31,8 +32,8 @@ refused-length number returned h k =
 -- the lines of a list, each of which is short
 module _ {A B : Type 0} (make : A → B) (lineOf : ℕ → B → List ℕ) (most : ℕ) where
   lines-length : (k : ℕ) (xs : List A) → ((i : ℕ) (d : A) → i < length xs → length (lineOf (k + i) (make (getD xs i d))) ≤ most)
-      → length (linesFrom k lineOf (map make xs)) ≤ length xs * most
-  unfolding linesFrom
+      → length (piecesFrom k lineOf (map make xs)) ≤ length xs * most
+  unfolding piecesFrom
   lines-length k [] h = omega arith
   lines-length k (x ∷ xs) h =
       let first : length (lineOf k (make x)) ≤ most = rw add-zero at (h 0 x (omega arith)) in

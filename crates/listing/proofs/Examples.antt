@@ -11,8 +11,9 @@ use Rattle.info_block.specs.InfoBlock.{wholeList, nameList}
 use Rattle.nitro.specs.Tex.{headerOf, dataAt, readHeader, readPalBlock, readSecond, readData, readTexture, readTextures, readPalettes, readTex}
 use Rattle.nitro.proofs.Sample.{leaf, sample}
 use Rattle.text.specs.Text.{ascii, decimalBelow, decimal, line}
+use Rattle.errors.specs.Output.{piecesFrom}
 use Rattle.lines.specs.Lines.{wrapWord, alphaWord, textureLine, paletteLine}
-use Rattle.listing.specs.Listing.{linesFrom, headed, listsOf}
+use Rattle.listing.specs.Listing.{headed, listsOf}
 use Rattle.listing.specs.Listing.{refusedLine, listingOutcome, listingText}
 
 pub record Examples : Type 0 where
@@ -38,7 +39,7 @@ pub record Examples : Type 0 where
 pub examples : Examples
 unfolding width height alpha dataLength numberAt run outcomeOf bytesAt expect eachFrom _>>=_ _>>_ wholeList nameList trimmed safeText
     headerOf dataAt readHeader readPalBlock readSecond readData readTexture readTextures readPalettes readTex leaf sample
-    ascii decimalBelow decimal line wrapWord alphaWord textureLine paletteLine linesFrom headed listsOf refusedLine listingOutcome listingText
+    ascii decimalBelow decimal line wrapWord alphaWord textureLine paletteLine piecesFrom headed listsOf refusedLine listingOutcome listingText
 examples = record {
   sample-listing = refl;
   sample-bytes = refl;

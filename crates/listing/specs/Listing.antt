@@ -1,11 +1,12 @@
 -- The listing of an input: 01, "Listing program". Assumes nothing.
-use Prim.Native.Nat.{ℕ, suc}
+use Prim.Native.Nat.{ℕ}
 use Prim.Native.String.{String}
 use mathlib.Core.Bool.{cond}
 use mathlib.Core.List.{List, [], _∷_, _++_, map}
 use lib.ListN.{length}
 use lib.Dec.{ltb}
 use Rattle.util.specs.Outcome.{Outcome, result, refusal}
+use Rattle.errors.specs.Output.{piecesFrom}
 use Rattle.info_block.specs.Script.{run, outcomeOf}
 use Rattle.nitro.specs.Tex.{Contents, readTex}
 use Rattle.nitro.specs.Calls.{textureRecord, paletteRecord}
@@ -14,14 +15,9 @@ use Rattle.nitro.specs.declared.tex.PaletteRecord.{PaletteRecord}
 use Rattle.text.specs.Text.{ascii, decimal, line}
 use Rattle.lines.specs.Lines.{textureLine, paletteLine}
 
--- The lines of a list's records, which are numbered in their order.
-unfoldable pub linesFrom : {A : Type 0} → (number : ℕ) → (ℕ → A → List ℕ) → List A → List ℕ
-linesFrom number lineOf [] = []
-linesFrom number lineOf (first ∷ later) = lineOf number first ++ linesFrom (suc number) lineOf later
-
--- 01, "Listing program": "Each list opens with its word and its count."
+-- 01, "Listing program": "Each list opens with its word and its count." The lines behind it are numbered in the records' order.
 unfoldable pub headed : {A : Type 0} → (word : String) → (ℕ → A → List ℕ) → List A → List ℕ
-headed word lineOf records = line (ascii word ∷ decimal (length records) ∷ []) ++ linesFrom 0 lineOf records
+headed word lineOf records = line (ascii word ∷ decimal (length records) ∷ []) ++ piecesFrom 0 lineOf records
 
 -- The records of a reading, as the record calls give them.
 abbrev pub textureRecords : Contents → List TextureRecord

@@ -1,9 +1,10 @@
 -- What the private functions put of a listing; no public contract cites it. Assumes nothing.
-use Prim.Native.Nat.{ℕ, zero, suc}
+use Prim.Native.Nat.{ℕ}
 use mathlib.Core.List.{List, [], _∷_, _++_}
 use Rattle.info_block.specs.Script.{Answer}
 use Rattle.nitro.specs.Tex.{Contents}
 use Rattle.nitro.specs.Calls.{textureOf, paletteOf, noTexture, noPalette, valueOr}
+use Rattle.errors.specs.Output.{pieces}
 use Rattle.errors.specs.declared.Kind.{Kind}
 use Rattle.errors.specs.declared.Kind.the-variants.{Texture, Palette}
 use Rattle.text.specs.Text.{ascii, decimal, line}
@@ -19,11 +20,6 @@ abbrev pub entryLine : Kind → Answer Contents → (n : ℕ) → List ℕ
 entryLine Texture a n = textureLine n (valueOr noTexture (textureOf n a))
 entryLine Palette a n = paletteLine n (valueOr noPalette (paletteOf n a))
 
--- The first n lines.
-unfoldable pub lines : (lineOf : ℕ → List ℕ) (n : ℕ) → List ℕ
-lines lineOf zero = []
-lines lineOf (suc n) = lines lineOf n ++ lineOf n
-
 -- The list of a kind, as long as the count says.
 unfoldable pub listOf : Kind → Answer Contents → (count : ℕ) → List ℕ
-listOf kind a count = line (listWord kind ∷ decimal count ∷ []) ++ lines (entryLine kind a) count
+listOf kind a count = line (listWord kind ∷ decimal count ∷ []) ++ pieces (entryLine kind a) count

@@ -135,10 +135,10 @@ module _ {A B : Type 0} (k : Kind) (n : ℕ) (b : List ℕ) (list : Contents →
       go false q = refusal-any r (rw q at e) ∙ sym (entry-out k f (list c) n (rw (counts c) at (ltb-false n (countOf k (layoutOf b c)) q)))
 
 -- an entry that is asked for is there, so these are never answered
-abbrev blankTexture : Tex.Texture
+abbrev pub blankTexture : Tex.Texture
 blankTexture = record { name = []; word = 0; parts = record { data1 = []; data2 = [] } }
 
-abbrev blankPalette : Tex.Palette
+abbrev pub blankPalette : Tex.Palette
 blankPalette = record { name = []; off = 0 }
 
 -- texture n: where it stands, by the layout that the code has, and that it is what the calls answer with

@@ -5,8 +5,8 @@ use mathlib.Core.Bool.{Bool, true, false}
 use mathlib.Core.List.{List, []}
 use native.Mathlib.Nat.{zero-add}
 use native.Mathlib.Omega.{arith}
-use lib.ListN.{length, take, getD}
-use lib.Seq.{getD-take}
+use lib.ListN.{length, take, drop, getD, length-drop}
+use lib.Seq.{getD-take, length-take-le}
 use lib.Dec.{eqb, lit<}
 use borrow.Author.Tests.{eq-eqb, ne-eqb}
 use Rattle.util.specs.Outcome.{result}
@@ -166,28 +166,44 @@ finished b {c} e =
 -- data that were read, as parts of the block
 pub record Parts (h : Header) (w : ℕ) (b : List ℕ) (parts : Tex.Data) : Type 0 where
   pub first : parts .data1 ≡ takenPart (dataAt h w) (dataLength w) b
+  pub first-length : length (parts .data1) ≡ dataLength w
   pub second : parts .data2 ≡ takenPart (secondAt h w) (secondLength w) b
+  pub second-length : length (parts .data2) ≡ secondLength w
+
+-- a part that was read is as long as it was asked for
+bytes-length : (p n : ℕ) (b : List ℕ) {part : List ℕ} → run (bytesAt p n) b ≡ whole part → length part ≡ n
+bytes-length p n b e =
+    let there = bytes-whole p n b e in
+    rw (there .same) (length-take-le n (drop p b) (rw length-drop (omega (arith, there .within))))
 
 module _ (h : Header) (w : ℕ) (b : List ℕ) where
-  second-whole : {part : List ℕ} → run (readSecond h w) b ≡ whole part → part ≡ takenPart (secondAt h w) (secondLength w) b
+  second-whole : {part : List ℕ} → run (readSecond h w) b ≡ whole part
+      → (part ≡ takenPart (secondAt h w) (secondLength w) b) × (length part ≡ secondLength w)
   unfolding readSecond run secondLength
   second-whole {part} e = go (eqb (format w) 5) refl
     where
-      go : (t : Bool) → eqb (format w) 5 ≡ t → part ≡ takenPart (secondAt h w) (secondLength w) b
+      go : (t : Bool) → eqb (format w) 5 ≡ t → (part ≡ takenPart (secondAt h w) (secondLength w) b) × (length part ≡ secondLength w)
       go true q =
-          let there = bytes-whole (secondAt h w) (dataLength w / 2) b (rw q at e) in
-          there .same ∙ (part-there (secondAt h w) (dataLength w / 2) b (there .within) ∙ rw q)
-      go false q = let none : part ≡ [] = cc (rw q at e) in none ∙ (sym (part-empty (secondAt h w) b) ∙ rw q)
+          let read = rw q at e in
+          let there = bytes-whole (secondAt h w) (dataLength w / 2) b read in (
+            there .same ∙ (part-there (secondAt h w) (dataLength w / 2) b (there .within) ∙ rw q),
+            bytes-length (secondAt h w) (dataLength w / 2) b read ∙ rw q,
+          )
+      go false q = let none : part ≡ [] = cc (rw q at e) in (none ∙ (sym (part-empty (secondAt h w) b) ∙ rw q), rw (none, q))
 
   pub data-whole : {parts : Tex.Data} → run (readData h w) b ≡ whole parts → Parts h w b parts
   unfolding readData run
-  data-whole e =
+  data-whole {parts} e =
       let o = both (bytesAt (dataAt h w) (dataLength w)) _ b e in
       let p = both (readSecond h w) _ b (o .second) in
       let there = bytes-whole (dataAt h w) (dataLength w) b (o .first) in
+      let first : parts .data1 ≡ o .middle = cc (p .second) in
+      let second : parts .data2 ≡ p .middle = cc (p .second) in
       record {
-        first = cc (p .second, there .same, part-there (dataAt h w) (dataLength w) b (there .within));
-        second = cc (p .second, second-whole (p .first));
+        first = cc (first, there .same, part-there (dataAt h w) (dataLength w) b (there .within));
+        first-length = rw first (bytes-length _ _ b (o .first));
+        second = second ∙ second-whole (p .first) .0;
+        second-length = rw second (second-whole (p .first) .1);
       }
 
 -- entry n of a list that was read

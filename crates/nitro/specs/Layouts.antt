@@ -1,16 +1,16 @@
 -- What the functions between the script and the calls hand on: a count, the header, and the layout, which is the
 -- header and both counts. No public call of `tex.rt` answers with these. Assumes nothing.
-use Prim.Native.Nat.{ℕ, _*_}
+use Prim.Native.Nat.{ℕ, _+_, _*_}
 use mathlib.Core.Bool.{Bool, true, cond}
-use mathlib.Core.List.{List}
+use mathlib.Core.List.{List, [], _∷_}
 use lib.ListN.{length, take}
-use lib.Dec.{ltb}
+use lib.Dec.{ltb, eqb}
 use Rattle.util.specs.Outcome.{Outcome, result, refusal}
 use Rattle.errors.specs.Refusal.{absentNumber, refusalOutcome}
 use Rattle.errors.specs.declared.Kind.{Kind}
 use Rattle.errors.specs.declared.Kind.the-variants as kind
 use Rattle.info_block.specs.Script.{Script, Answer, run, outcomeOf, each}
-use Rattle.info_block.specs.InfoBlock.{listAt, entryNumber}
+use Rattle.info_block.specs.InfoBlock.{nameAt, listLength, listAt, entryNumber}
 use Rattle.nitro.specs.Tex.{Texture, Contents, headerOf, readTexture}
 use Rattle.nitro.specs.Calls.{placesAt}
 use Rattle.nitro.specs.declared.tex.Header.{Header}
@@ -23,6 +23,7 @@ use Rattle.nitro.specs.declared.tex.PaletteChoice.{PaletteChoice}
 use Rattle.nitro.specs.declared.tex.PaletteChoice.the-variants as choices
 use Rattle.nitro.specs.declared.tex.PaletteOff.{PaletteOff}
 use Rattle.nitro.specs.declared.tex.PaletteOff.the-variants as offs
+use Rattle.nitro.specs.declared.tex.Place.{Place}
 use Rattle.nitro.specs.declared.tex.Places.{Places}
 
 -- How many things a script came to.
@@ -75,3 +76,33 @@ chosenAt block l (choices.Number k) =
 unfoldable pub placesBy : (block : List ℕ) → Layout → (n : ℕ) → PaletteOff → Places
 placesBy block l n palette =
     placesAt (l .header) (entryNumber kind.Texture 4 (listAt kind.Texture (l .header .«texture_off») (l .textures) block) n) palette
+
+-- Where the list of kind k ends.
+abbrev pub listEnd : Kind → Layout → ℕ
+listEnd kind.Texture l = l .header .«texture_off» + listLength kind.Texture (l .textures)
+listEnd kind.Palette l = l .header .«palette_off» + listLength kind.Palette (l .palettes)
+
+-- The row of entry n, by the layout, and how many numbers it has.
+abbrev pub rowLength : Kind → ℕ
+rowLength kind.Texture = 6
+rowLength kind.Palette = 2
+
+abbrev pub toldPos : Place → ℕ
+toldPos place = cond (eqb (place .len) 0) 0 (place .pos)
+
+abbrev pub placesRow : (name : ℕ) → Places → List ℕ
+placesRow name places =
+    name
+    ∷ places .params .0
+    ∷ toldPos (places .data1)
+    ∷ places .data1 .len
+    ∷ toldPos (places .data2)
+    ∷ places .data2 .len
+    ∷ []
+
+unfoldable pub rowBy : Kind → (block : List ℕ) → Layout → (n : ℕ) → List ℕ
+rowBy kind.Texture block l n = placesRow (l .header .«texture_off» + nameAt kind.Texture (l .textures) n) (placesBy block l n offs.None)
+rowBy kind.Palette block l n =
+    (l .header .«palette_off» + nameAt kind.Palette (l .palettes) n)
+    ∷ 8 * entryNumber kind.Palette 2 (listAt kind.Palette (l .header .«palette_off») (l .palettes) block) n
+    ∷ []

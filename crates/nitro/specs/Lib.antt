@@ -1,3 +1,4 @@
 pub mod Calls
 pub mod Layouts
+pub mod Rows
 pub mod Tex

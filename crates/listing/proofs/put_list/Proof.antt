@@ -4,9 +4,10 @@ use mathlib.Core.Path.{_≡_}
 use native.Mathlib.Omega.{arith}
 use denote.Ref.{now}
 use Rattle.info_block.specs.Script.{run}
+use Rattle.errors.specs.Output.{pieces}
 use Rattle.nitro.specs.Tex.{readTex}
 use Rattle.text.specs.Put.{Room, Put}
-use Rattle.listing.specs.Lists.{entryLine, lines, listOf}
+use Rattle.listing.specs.Lists.{entryLine, listOf}
 use Rattle.text.proofs.Puts.{put-none, put-then, put-length, room-first, room-then}
 use Rattle.listing.proofs.Lists.{room-line, put-line}
 use Rattle.listing.proofs.put_list.Statement.{statement}
@@ -14,7 +15,7 @@ use Rattle.listing.proofs.put_list.Tie as tie
 
 -- n lines are there, behind where the loop began
 abbrev Inv-loop : tie.InvT-loop
-Inv-loop out₀ at block kind count at₀ n₀ out at' n = (n ≤ count) × Put (lines (entryLine kind (run readTex block)) n) out₀ at₀ out at'
+Inv-loop out₀ at block kind count at₀ n₀ out at' n = (n ≤ count) × Put (pieces (entryLine kind (run readTex block)) n) out₀ at₀ out at'
 
 abbrev μ-loop : tie.MeasureT-loop
 μ-loop out₀ at block kind count at₀ n₀ out at' n = count - n
@@ -23,7 +24,7 @@ abbrev μ-loop : tie.MeasureT-loop
 behind : (c : tie.At-loop Inv-loop μ-loop)
     → let s = c .before .before .before .before .before .before .before in
     let head = c .before .before .before .put-heading in
-    Room (lines (entryLine (s .args .kind) (run readTex (now (s .args .block)))) (s .args .count)) (head .last .0) (head .result)
+    Room (pieces (entryLine (s .args .kind) (run readTex (now (s .args .block)))) (s .args .count)) (head .last .0) (head .result)
 unfolding listOf
 behind c = room-then (c .before .before .before .put-heading .ensures) (c .before .before .before .before .before .before .before .pre)
 
@@ -42,7 +43,7 @@ unfolding listOf
 put-heading-requires c κs = room-first _ _ (c .before .before .before .pre)
 
 loop-holds : tie.Need-loop-holds Inv-loop μ-loop
-unfolding lines
+unfolding pieces
 loop-holds c = (omega arith, put-none _ _)
 
 put-entry-requires : tie.Need-put-entry-requires Inv-loop μ-loop
