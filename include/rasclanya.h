@@ -3,8 +3,8 @@
 
    Rules that hold for every call:
 
-   - A slice is a pointer to bytes and their number. The pointer is never NULL: where the length is 0, it is any other pointer, as the
-     address of some object, and is not followed. The bytes of a slice lie within one object.
+   - A slice is a pointer to bytes, or to numbers, and how many there are. The pointer is never NULL and is aligned for its type: where
+     the length is 0, it is any other pointer, as the address of some object, and is not followed. A slice lies within one object.
    - Every other pointer is to one number, aligned for its type, and never NULL.
    - What is lent for writing (a pointer that is not to const) overlaps nothing else that is lent to the same call. What is only read may
      overlap.
@@ -12,7 +12,7 @@
      fetching calls; a call that is not refused writes every number that it is lent for writing.
    - *needed, where there is one, is always written: for RASCLANYA_SHORT the length of the block at which the call gets further, and
      else 0.
-   - A call that writes bytes leaves those of its output that lie behind the result as they were.
+   - A call that writes to a slice leaves what lies behind the result as it was.
    - The readers of a texture word take no pointer and are never refused.
    - Every call ends, for all arguments that keep to these rules. No call keeps a pointer, allocates memory or has a state, so calls may be
      made from several threads at once, as long as none writes what another is lent. */
@@ -65,6 +65,12 @@ enum {
 #define RASCLANYA_MAX_INPUT 65536
 /* An output of this length has room for every text that rasclanya_list writes. */
 #define RASCLANYA_MAX_LISTING 22211
+
+/* How many textures, and how many palettes, a block has at most. */
+#define RASCLANYA_MAX_COUNT 255
+/* How many numbers rasclanya_textures writes for a texture, and rasclanya_palettes for a palette. */
+#define RASCLANYA_TEXTURE_ROW 6
+#define RASCLANYA_PALETTE_ROW 2
 
 /* ---- The texture word: a texture's size, format and addressing in 32 bits. */
 
@@ -134,6 +140,19 @@ uint32_t rasclanya_texture_data2(const uint8_t *block, size_t block_len, size_t 
 /* Where in the block the palette block is, which all palettes share: *len bytes at *pos. A part of 0 bytes has position 0.
    Refusals: those of the reading. */
 uint32_t rasclanya_pal_block(const uint8_t *block, size_t block_len, size_t *pos, size_t *len, size_t *needed);
+
+/* All textures from one reading: a row of RASCLANYA_TEXTURE_ROW numbers for each, in list order, and how many numbers that are in *len.
+   The numbers of a row: where in the block the name begins, which has RASCLANYA_NAME_LEN bytes; the texture word; where the data begin, or
+   the first data for format 5, and how many bytes they are; and the same of the second data. A part of 0 bytes has position 0. The rows
+   have room in RASCLANYA_MAX_COUNT * RASCLANYA_TEXTURE_ROW numbers.
+   Refusals: those of the reading, then 11. */
+uint32_t rasclanya_textures(const uint8_t *block, size_t block_len, size_t *rows, size_t rows_len, size_t *len, size_t *needed);
+
+/* All palettes from one reading: a row of RASCLANYA_PALETTE_ROW numbers for each, in list order, and how many numbers that are in *len. The
+   numbers of a row: where in the block the name begins, which has RASCLANYA_NAME_LEN bytes, and the offset in bytes from the palette
+   block's start. The rows have room in RASCLANYA_MAX_COUNT * RASCLANYA_PALETTE_ROW numbers.
+   Refusals: those of the reading, then 11. */
+uint32_t rasclanya_palettes(const uint8_t *block, size_t block_len, size_t *rows, size_t rows_len, size_t *len, size_t *needed);
 
 /* ---- Names: of the bytes lent, the first RASCLANYA_NAME_LEN; fewer count as padded with zeros. Trailing zeros are no part of a text. */
 

@@ -70,6 +70,23 @@ extern "C" {
         needed: *mut usize,
     ) -> u32;
 
+    pub fn rasclanya_textures(
+        block: *const u8,
+        block_len: usize,
+        rows: *mut usize,
+        rows_len: usize,
+        len: *mut usize,
+        needed: *mut usize,
+    ) -> u32;
+    pub fn rasclanya_palettes(
+        block: *const u8,
+        block_len: usize,
+        rows: *mut usize,
+        rows_len: usize,
+        len: *mut usize,
+        needed: *mut usize,
+    ) -> u32;
+
     pub fn rasclanya_print_safe(
         name: *const u8,
         name_len: usize,

@@ -24,6 +24,20 @@
 //! # }
 //! ```
 //!
+//! All textures, or all palettes, come from one reading:
+//!
+//! ```
+//! # fn main() -> Result<(), Box<dyn std::error::Error>> {
+//! let block = std::fs::read("../../crates/list_tex/stdin")?;
+//! for texture in rasclanya::textures(&block)? {
+//!     println!("{} {} bytes", texture.name, texture.data1.len());
+//! #   assert_eq!((texture.name.to_string().as_str(), texture.data1), ("leaf", &block[144..176]));
+//! }
+//! # assert_eq!(rasclanya::palettes(&block)?.len(), 1);
+//! # Ok(())
+//! # }
+//! ```
+//!
 //! A block that is still arriving is lent as far as it is there. An answer that is not [`Error::Short`] is the whole block's:
 //!
 //! ```
@@ -45,6 +59,9 @@ use std::fmt;
 
 /// The length of a name in bytes.
 const NAME_LEN: usize = 16;
+
+/// How many textures, and how many palettes, a block has at most.
+const MAX_COUNT: usize = 255;
 
 /// The longest text that a name is displayed as, in bytes.
 const MAX_DISPLAY: usize = 32;
@@ -398,6 +415,19 @@ pub struct Palette {
     pub off: u32,
 }
 
+/// A texture with its data, as [`textures`] gives it.
+#[derive(Clone, Copy, Debug, PartialEq, Eq, Hash)]
+pub struct TextureParts<'a> {
+    /// The name.
+    pub name: Name,
+    /// The texture word.
+    pub params: TextureParams,
+    /// The data, or the first data for format 5, as the part of the block that they occupy.
+    pub data1: &'a [u8],
+    /// The second data, as the part of the block that they occupy: empty for other formats than 5.
+    pub data2: &'a [u8],
+}
+
 /// What fetching a block came to.
 #[derive(Clone, Copy, Debug, PartialEq, Eq, Hash)]
 pub struct Fetched<T> {
@@ -523,6 +553,68 @@ pub fn pal_block(block: &[u8]) -> Result<&[u8], Error> {
     };
     done(number, needed)?;
     Ok(&block[pos..][..len])
+}
+
+/// A function of the archive that writes a row of numbers for each entry of a list: of a block, to an output, with how many numbers are
+/// written and the needed length.
+type RowsCall =
+    unsafe extern "C" fn(*const u8, usize, *mut usize, usize, *mut usize, *mut usize) -> u32;
+
+/// The rows of a list, of `N` numbers each.
+///
+/// # Safety
+///
+/// The function keeps to the header's rules for its slices and its numbers, and its rows have `N` numbers.
+unsafe fn rows<const N: usize>(call: RowsCall, block: &[u8]) -> Result<Vec<[usize; N]>, Error> {
+    let mut rows: Vec<[usize; N]> = Vec::with_capacity(MAX_COUNT);
+    let (mut len, mut needed) = (0, 0);
+    // SAFETY: the block is a slice, the output is the memory reserved for the rows, which the function does not read, and each number is a
+    // variable of its own.
+    let number = unsafe {
+        call(
+            block.as_ptr(),
+            block.len(),
+            rows.as_mut_ptr().cast(),
+            N * MAX_COUNT,
+            &mut len,
+            &mut needed,
+        )
+    };
+    done(number, needed)?;
+    // SAFETY: the function has written the first `len` numbers.
+    unsafe { rows.set_len(len / N) };
+    Ok(rows)
+}
+
+/// The name at a position of the block.
+fn name_at(block: &[u8], pos: usize) -> Name {
+    let mut name = [0; NAME_LEN];
+    name.copy_from_slice(&block[pos..][..NAME_LEN]);
+    Name(name)
+}
+
+/// All textures, in list order, from one reading of the block. The calls for one texture read the block each time.
+pub fn textures(block: &[u8]) -> Result<Vec<TextureParts<'_>>, Error> {
+    // SAFETY: the function is one of the archive's rows, and a texture's has six numbers.
+    let rows = unsafe { rows(ffi::rasclanya_textures, block)? };
+    let parts = |[name, word, pos1, len1, pos2, len2]: [usize; 6]| TextureParts {
+        name: name_at(block, name),
+        params: TextureParams(word as u32),
+        data1: &block[pos1..][..len1],
+        data2: &block[pos2..][..len2],
+    };
+    Ok(rows.into_iter().map(parts).collect())
+}
+
+/// All palettes, in list order, from one reading of the block.
+pub fn palettes(block: &[u8]) -> Result<Vec<Palette>, Error> {
+    // SAFETY: the function is one of the archive's rows, and a palette's has two numbers.
+    let rows = unsafe { rows(ffi::rasclanya_palettes, block)? };
+    let record = |[name, off]: [usize; 2]| Palette {
+        name: name_at(block, name),
+        off: off as u32,
+    };
+    Ok(rows.into_iter().map(record).collect())
 }
 
 /// Decodes a texture whose data need not stand in a block, and returns the picture's length in bytes.

@@ -216,6 +216,46 @@ fn parts() {
     assert_eq!((number, pos, len, needed), (0, size(64), size(80), size(0)));
 }
 
+/// A row's numbers are written whole, and nothing behind the rows is.
+#[test]
+fn rows() {
+    let block = block();
+    let mut out = [usize::MAX; 40];
+    let (mut len, mut needed) = (SIZE, SIZE);
+    let number = unsafe {
+        rasclanya_textures(
+            block.as_ptr(),
+            block.len(),
+            out.as_mut_ptr(),
+            31usize,
+            &mut len[0],
+            &mut needed[0],
+        )
+    };
+    assert_eq!((number, len, needed), (0, size(30), size(0)));
+    let word = |n: usize| WORDS[n] as usize;
+    assert_eq!(
+        out[6..24],
+        [236, word(1), 336, 16, 352, 8, 252, word(2), 360, 64, 0, 0, 268, word(3), 0, 0, 0, 0]
+    );
+    assert_eq!(out[30..], [usize::MAX; 10]);
+    let mut out = [usize::MAX; 8];
+    (len, needed) = (SIZE, SIZE);
+    let number = unsafe {
+        rasclanya_palettes(
+            block.as_ptr(),
+            block.len(),
+            out.as_mut_ptr(),
+            5usize,
+            &mut len[0],
+            &mut needed[0],
+        )
+    };
+    assert_eq!((number, len, needed), (0, size(4), size(0)));
+    assert_eq!(out[..4], [720, 8, 736, 40]);
+    assert_eq!(out[4..], [usize::MAX; 4]);
+}
+
 #[test]
 fn names() {
     let name = *b"caf\xe9 \x1f9\0\0\0\0\0\0\0\0\0z";

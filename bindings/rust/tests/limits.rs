@@ -169,6 +169,8 @@ fn words() {
 fn refused(block: &[u8], error: Error, short_answers: usize) {
     assert_eq!(read_tex(block), Err(error));
     assert_eq!(pal_block(block), Err(error));
+    assert_eq!(textures(block), Err(error));
+    assert_eq!(palettes(block), Err(error));
     assert_eq!(
         fetch_tex(block),
         Fetched {
@@ -241,7 +243,7 @@ fn counts() {
 const BEYOND: [usize; 3] = [TEXTURES, usize::MAX, 1 << 32];
 
 #[test]
-fn textures() {
+fn texture_records() {
     let block = block();
     let kinds = [
         (Wrap::Repeat, Wrap::Mirror, Alpha::Opaque),
@@ -270,7 +272,7 @@ fn textures() {
 }
 
 #[test]
-fn palettes() {
+fn palette_records() {
     let block = block();
     for (n, off) in [8, 40].into_iter().enumerate() {
         assert_eq!(
@@ -316,6 +318,51 @@ fn parts() {
     part(&block, pal_block(&block), 64, 80);
     let without = sample_with(48, &[0]);
     part(&without, pal_block(&without), 0, 0);
+}
+
+/// The texture has the name, the word and the parts that the calls for its number have.
+fn same_texture(block: &[u8], n: usize, got: TextureParts<'_>) {
+    let record = texture(block, n).expect("the block has the texture");
+    assert_eq!((got.name, got.params), (record.name, record.params));
+    let parts = [got.data1, got.data2].map(<[u8]>::as_ptr_range);
+    let single = [texture_data1(block, n), texture_data2(block, n)];
+    assert_eq!(parts.map(Ok), single.map(|part| part.map(<[u8]>::as_ptr_range)));
+}
+
+#[test]
+fn all_textures() {
+    let block = block();
+    let all = textures(&block).expect("the block is read");
+    assert_eq!(all.len(), TEXTURES);
+    for (n, got) in all.into_iter().enumerate() {
+        assert_eq!((got.name, got.params.0), (Name(texture_name(n)), WORDS[n]));
+        same_texture(&block, n, got);
+    }
+}
+
+#[test]
+fn all_palettes() {
+    let block = block();
+    let all = palettes(&block).expect("the block is read");
+    assert_eq!(all.len(), PALETTES);
+    for (n, got) in all.into_iter().enumerate() {
+        assert_eq!(Ok(got), palette(&block, n));
+    }
+}
+
+/// Blocks with no textures or palettes, and with the most.
+#[test]
+fn fewest_and_most() {
+    let none = blocks::with_entries(0);
+    assert_eq!(textures(&none), Ok(vec![]));
+    assert_eq!(palettes(&none), Ok(vec![]));
+    let most = blocks::with_entries(255);
+    let all = textures(&most).expect("the block is read");
+    assert_eq!(all.len(), 255);
+    for n in [0, 127, 254] {
+        same_texture(&most, n, all[n]);
+        assert_eq!(palettes(&most).map(|all| all[n]), palette(&most, n));
+    }
 }
 
 /// The name has the two texts.

@@ -19,26 +19,9 @@ use Rattle.nitro.specs.declared.tex.PaletteChoice.the-variants as choice
 use Rattle.nitro.specs.declared.tex.Place.{Place}
 use Rattle.nitro.specs.declared.tex.Places.{Places}
 use Rattle.nitro.proofs.Answers.{passed-on, located-sources, sources-data, placed-part}
-use Rattle.told.specs.Told.{placeOf, data1, data2, palBlock, Inside}
-
--- a part that was taken, by its place
-place-inside : (b : List ℕ) (p n : ℕ) → Inside b (takenPart p n b) (placeOf p (takenPart p n b))
-unfolding takenPart placeOf
-place-inside b p n = go (leb (p + n) (length b)) refl
-  where
-    go : (t : Bool) → leb (p + n) (length b) ≡ t → Inside b (takenPart p n b) (placeOf p (takenPart p n b))
-    go false q = rw q (record { within = omega arith; bytes = refl })
-    go true q = pick (eqb n 0) refl
-      where
-        fits : p + n ≤ length b
-        fits = leb-true _ _ q
-
-        long : length (take n (drop p b)) ≡ n
-        long = length-take-le n (drop p b) (rw length-drop (omega (arith, fits)))
-
-        pick : (t : Bool) → eqb n 0 ≡ t → Inside b (takenPart p n b) (placeOf p (takenPart p n b))
-        pick false z = rw (q, long, z) (record { within = fits; bytes = refl })
-        pick true z = rw (q, long, z) (record { within = omega (arith, eqb-true n 0 z); bytes = rw (eqb-true n 0 z) })
+use Rattle.nitro.specs.Rows.{placeOf, Inside}
+use Rattle.nitro.proofs.Rows.{place-inside}
+use Rattle.told.specs.Told.{data1, data2, palBlock}
 
 -- what is told of a part, and of a call that is declined
 module _ (b : List ℕ) (n : ℕ) where

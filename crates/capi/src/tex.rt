@@ -1,4 +1,5 @@
-// Readings and records.
+// Readings, records, and rows for all textures and palettes.
+use errors::Kind;
 use errors::Refusal;
 use errors::Status;
 use name::Name;
@@ -6,12 +7,15 @@ use nitro::tex;
 use text::put;
 use told::alpha_number;
 use told::refuse;
+use told::tell_count;
 use told::tell_counts;
 use told::wrap_number;
 ghost use mathlib.Core.Path.{_≡_};
 ghost use mathlib.Core.List.{_++_};
 ghost use Prim.Native.Nat.{_≤_};
 ghost use lib.ListN.{length, drop};
+ghost use Rattle.errors.specs.Output.{writeOutcome, writeOutput};
+ghost use Rattle.errors.specs.declared.Kind.the-variants as kinds;
 ghost use Rattle.told.specs.Told as Told;
 
 // Reads the block: how many textures and palettes it has.
@@ -107,4 +111,37 @@ pub extern "C" fn rasclanya_palette(
     *off = palette.off;
     *needed = 0;
     0
+}
+
+// A row of six numbers for each texture: where its name begins, its word, where its data begin and how long they are, and the same of its second
+// data. An empty part begins at 0.
+#[no_mangle]
+pub extern "C" fn rasclanya_textures(
+    block: &[u8],
+    rows: &mut [usize],
+    len: &mut usize,
+    needed: &mut usize,
+) -> u32
+    ensures { λ r. ⌜ r ≡ Told.codeOf (writeOutcome (Told.rows kinds.Texture (now (block .entry))) (now (rows .entry))) ⌝ }
+    ensures { λ _. ⌜ now (rows .exit) ≡ writeOutput (Told.rows kinds.Texture (now (block .entry))) (now (rows .entry)) ⌝ }
+    ensures { λ _. ⌜ now (len .exit) ≡ Told.left (now (len .entry)) Told.itself (writeOutcome (Told.rows kinds.Texture (now (block .entry))) (now (rows .entry))) ⌝ }
+    ensures { λ _. ⌜ now (needed .exit) ≡ Told.neededOf (writeOutcome (Told.rows kinds.Texture (now (block .entry))) (now (rows .entry))) ⌝ }
+{
+    tell_count(tex::rows(block, Kind::Texture, rows), len, needed)
+}
+
+// A row of two numbers for each palette: where its name begins, and its offset in bytes.
+#[no_mangle]
+pub extern "C" fn rasclanya_palettes(
+    block: &[u8],
+    rows: &mut [usize],
+    len: &mut usize,
+    needed: &mut usize,
+) -> u32
+    ensures { λ r. ⌜ r ≡ Told.codeOf (writeOutcome (Told.rows kinds.Palette (now (block .entry))) (now (rows .entry))) ⌝ }
+    ensures { λ _. ⌜ now (rows .exit) ≡ writeOutput (Told.rows kinds.Palette (now (block .entry))) (now (rows .entry)) ⌝ }
+    ensures { λ _. ⌜ now (len .exit) ≡ Told.left (now (len .entry)) Told.itself (writeOutcome (Told.rows kinds.Palette (now (block .entry))) (now (rows .entry))) ⌝ }
+    ensures { λ _. ⌜ now (needed .exit) ≡ Told.neededOf (writeOutcome (Told.rows kinds.Palette (now (block .entry))) (now (rows .entry))) ⌝ }
+{
+    tell_count(tex::rows(block, Kind::Palette, rows), len, needed)
 }

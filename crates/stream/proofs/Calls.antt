@@ -19,6 +19,7 @@ use Rattle.info_block.specs.Script.{Script, Answer, short, fault, whole, run, o
 use Rattle.info_block.specs.InfoBlock.{nameList, listCount}
 use Rattle.nitro.specs.Tex.{Palette, Contents, headerOf, readTex}
 use Rattle.nitro.specs.Calls as Calls
+use Rattle.nitro.specs.Rows.{rowsIn, rowsOf}
 use Rattle.nitro.specs.declared.tex.PaletteChoice.{PaletteChoice}
 use Rattle.nitro.specs.declared.tex.PaletteChoice.the-variants as choices
 use Rattle.nitro.specs.declared.tex.PaletteOff.{PaletteOff}
@@ -196,6 +197,27 @@ pal-place-scripted = record {
   at-short = λ b w e. (rw e, refl);
   only-short = λ b w e. outcome-short (run readTex b) _ (λ _. result-not {A = Place}) w e;
 }
+
+module _ (kind : Kind) where
+  rows-at-short : (b : List ℕ) (a : Answer Contents) (w : ℕ) → a ≡ short w → rowsOf kind b a ≡ refusal 1 w
+  unfolding rowsOf outcomeOf
+  rows-at-short b a w e = rw e
+
+  rows-same : (b : List ℕ) (m : ℕ) → m ≤ length b → run readTex (take m b) ≡ run readTex b
+      → rowsOf kind (take m b) (run readTex (take m b)) ≡ rowsOf kind b (run readTex b)
+  unfolding rowsOf outcomeOf
+  rows-same = by-header (λ header a. outcomeOf a λ c. result (rowsIn kind (headerOf header) c)) (λ header a w q. rw q)
+
+  pub rows-scripted : (output : List ℕ)
+      → Scripted readTex (λ b. writeOutcome (rowsOf kind b (run readTex b)) output) (λ b. writeOutput (rowsOf kind b (run readTex b)) output) output
+  unfolding rowsOf writeOutcome writeOutput
+  rows-scripted output = record {
+    same = λ b m h e. let same = rows-same b m h e in (ap (λ made. writeOutcome made output) same, ap (λ made. writeOutput made output) same);
+    at-short = λ b w e. rw (rows-at-short b _ w e) (refl, refl);
+    only-short =
+        λ b w e.
+        outcome-short (run readTex b) _ (λ _. result-not {A = List ℕ}) w (write-short (rowsOf kind b (run readTex b)) output w e);
+  }
 
 module _ (n : ℕ) (choice : PaletteChoice) where
   sources-short : (a : Answer Contents) (w : ℕ) → Calls.sourcesOf n choice a ≡ refusal 1 w → a ≡ short w

@@ -9,7 +9,7 @@ use Rattle.info_block.proofs.Early.{early-settled, early-waits}
 use Rattle.info_block.proofs.Runs.{run-short}
 use Rattle.stream.specs.Prefix.{Prefix, PrefixLaws}
 use Rattle.stream.proofs.Calls.{Scripted, list-scripted, reading-scripted, texture-scripted, palette-scripted, data1-scripted}
-use Rattle.stream.proofs.Calls.{data2-scripted, pal-block-scripted, pal-place-scripted, locate-scripted, picture-scripted}
+use Rattle.stream.proofs.Calls.{data2-scripted, pal-block-scripted, pal-place-scripted, locate-scripted, rows-scripted, picture-scripted}
 
 -- from the law on scripts, for every call that goes by what a script comes to
 module _ {A B C : Type 0} (s : Script A) {answer : List ℕ → Outcome B} {beside : List ℕ → C} {declined : C} where
@@ -42,5 +42,6 @@ prefix-laws = record {
   pal-block = prefix-law _ pal-block-scripted;
   pal-place = prefix-law _ pal-place-scripted;
   locate = λ i choice. prefix-law _ (locate-scripted i choice);
+  rows = λ kind output. prefix-law _ (rows-scripted kind output);
   picture = λ i choice output. prefix-law _ (picture-scripted i choice output);
 }

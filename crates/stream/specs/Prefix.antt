@@ -13,6 +13,7 @@ use Rattle.info_block.specs.Script.{run}
 use Rattle.nitro.specs.Tex.{readTex}
 use Rattle.info_block.specs.InfoBlock.{nameList, listCount}
 use Rattle.nitro.specs.Calls as Calls
+use Rattle.nitro.specs.Rows.{rowsOf}
 use Rattle.nitro.specs.declared.tex.PaletteChoice.{PaletteChoice}
 use Rattle.decode.specs.Pictures.{pictureOf}
 
@@ -56,6 +57,9 @@ pub record PrefixLaws : Type 0 where
   pub pal-place : Prefix (λ b. Calls.palPlaceOf b (run readTex b)) nothing tt
   -- `nitro::tex::locate`: where a picture's parts are.
   pub locate : (i : ℕ) (choice : PaletteChoice) → Prefix (λ b. Calls.placesOf i choice b (run readTex b)) nothing tt
+  -- `nitro::tex::rows`: how many numbers all rows of a kind have, and the output as the call leaves it.
+  pub rows : (kind : Kind) (output : List ℕ)
+      → Prefix (λ b. writeOutcome (rowsOf kind b (run readTex b)) output) (λ b. writeOutput (rowsOf kind b (run readTex b)) output) output
   -- `decode::picture::picture`: a picture's length, and the output as the call leaves it.
   pub picture : (i : ℕ) (choice : PaletteChoice) (output : List ℕ)
       → Prefix (λ b. writeOutcome (pictureOf i choice (run readTex b)) output) (λ b. writeOutput (pictureOf i choice (run readTex b)) output) output

@@ -1,7 +1,6 @@
 -- What the calls for other languages tell of an answer, in numbers and slices. An answer itself is the called function's: each definition here
 -- goes by the one in that function's contract. Assumes nothing.
-use Prim.Native.Nat.{ℕ, _+_, _≤_}
-use mathlib.Core.Path.{_≡_}
+use Prim.Native.Nat.{ℕ}
 use mathlib.Core.Bool.{cond}
 use mathlib.Core.List.{List, _++_}
 use lib.ListN.{length, take, drop, replicate}
@@ -11,8 +10,10 @@ use Rattle.nds.specs.declared.texture_formats.Alpha.{Alpha}
 use Rattle.nds.specs.declared.texture_formats.Alpha.the-variants as alpha
 use Rattle.nds.specs.declared.wrap.Wrap.{Wrap}
 use Rattle.nds.specs.declared.wrap.Wrap.the-variants as wrap
+use Rattle.errors.specs.declared.Kind.{Kind}
 use Rattle.info_block.specs.Script.{run}
 use Rattle.nitro.specs.Tex.{readTex}
+use Rattle.nitro.specs.Rows.{placeOf, rowsOf}
 use Rattle.nitro.specs.Calls.{Counts, readingOf, textureOf, paletteOf, data1Of, data2Of, palBlockOf, placesOf, palPlaceOf}
 use Rattle.nitro.specs.declared.tex.TextureRecord.{TextureRecord}
 use Rattle.nitro.specs.declared.tex.PaletteRecord.{PaletteRecord}
@@ -108,11 +109,8 @@ paletteName output p = p .name .0 ++ drop 16 output
 abbrev pub paletteOff : PaletteRecord → ℕ
 paletteOff p = p .off
 
--- A part by where it begins in the block, and its length. 01, "Modules" 5: "the part of the lent block it occupies". A part without bytes begins
--- at 0, so that every part that is told lies within its block.
-unfoldable pub placeOf : (pos : ℕ) (part : List ℕ) → Place
-placeOf pos part = record { pos = cond (eqb (length part) 0) 0 pos; len = length part }
-
+-- A part by its place. The laws `data1-inside`, `data2-inside` and `pal-block-inside` of `capi` proofs/Places.antt say that every place that is told
+-- lies within its block, and has the part.
 abbrev pub pos : Place → ℕ
 pos place = place .pos
 
@@ -134,11 +132,9 @@ palBlock block = do
   place ← palPlaceOf block (run readTex block)
   result (placeOf (place .pos) (palBlockOf (run readTex block)))
 
--- A place lies within the block, and has the part: the laws `data1-inside`, `data2-inside` and `pal-block-inside` of proofs/Places.antt say so of
--- every place that is told.
-pub record Inside (block part : List ℕ) (place : Place) : Type 0 where
-  pub within : place .pos + place .len ≤ length block
-  pub bytes : take (place .len) (drop (place .pos) block) ≡ part
+-- All textures, or all palettes, of one reading, by rows of numbers.
+abbrev pub rows : Kind → (block : List ℕ) → Outcome (List ℕ)
+rows kind block = rowsOf kind block (run readTex block)
 
 -- Direct decoding, and a picture from a block: what goes to the output.
 abbrev pub decoding : (word : ℕ) (first second : List ℕ) (has off : ℕ) (colors : List ℕ) → Outcome (List ℕ)

@@ -9,6 +9,7 @@ use nitro::tex::Reading;
 ghost use mathlib.Core.Path.{_≡_};
 ghost use Rattle.errors.specs.Refusal.{refusalNumber, refusalReturned, countedOutcome};
 ghost use Rattle.nitro.specs.Calls.{readingOutcome};
+ghost use Rattle.nitro.specs.Rows.{placeOf};
 ghost use Rattle.told.specs.Told as Told;
 
 pub fn wrap_number(wrap: Wrap) -> u32
@@ -130,8 +131,8 @@ pub fn tell_part(
     needed: &mut usize,
 ) -> u32
     ensures { λ r. ⌜ r ≡ 0 ⌝ }
-    ensures { λ _. ⌜ now (pos .exit) ≡ Told.pos (Told.placeOf at (now (part .entry))) ⌝ }
-    ensures { λ _. ⌜ now (len .exit) ≡ Told.len (Told.placeOf at (now (part .entry))) ⌝ }
+    ensures { λ _. ⌜ now (pos .exit) ≡ Told.pos (placeOf at (now (part .entry))) ⌝ }
+    ensures { λ _. ⌜ now (len .exit) ≡ Told.len (placeOf at (now (part .entry))) ⌝ }
     ensures { λ _. ⌜ now (needed .exit) ≡ 0 ⌝ }
 {
     if part.len() == 0 {

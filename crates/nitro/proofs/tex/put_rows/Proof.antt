@@ -53,11 +53,10 @@ loop-less c = omega arith
 
 loop-again : tie.Need-loop-again Inv-loop μ-loop
 loop-again c =
-    let s = c .before .before .before .before .before in
-    (
+    let s = c .before .before .before .before .before in (
       omega arith,
       rw (s .before .row-len .ensures) at (c .before .before .put-row .ensures)
-      ∙ row-behind _ _ _ (s .loop .n) _ (s .loop .inv .1),
+          ∙ row-behind _ _ _ (s .loop .n) _ (s .loop .inv .1),
     )
 
 same-length : tie.Need-same-length Inv-loop μ-loop
@@ -67,7 +66,7 @@ returns : tie.Need-returns Inv-loop μ-loop
 returns c =
     let s = c .before .before .before in
     let e : c .before .loop .n ≡ countOf (s .before .before .before .args .kind) (s .before .before .before .args .layout) =
-        omega (arith, s .count-of .ensures, c .before .loop .inv .0, c .loop-test .left) in
+    omega (arith, s .count-of .ensures, c .before .loop .inv .0, c .loop-test .left) in
     rw (← e) (c .before .loop .inv .1)
 
 pub put-rows-spec : {M : Type 1} → statement M
