@@ -86,6 +86,35 @@ static bool out_is(size_t len, struct slice text)
     return memcmp(out, text.at, text.len) == 0;
 }
 
+/* Rows, in an output of numbers that is filled like the output of bytes. */
+#define MAX_ROWS (RASCLANYA_MAX_COUNT * RASCLANYA_TEXTURE_ROW)
+
+struct rows {
+    const size_t *at;
+    size_t len;
+};
+
+static const struct rows NO_ROWS = {NULL, 0};
+static size_t rows_out[MAX_ROWS + BEHIND];
+
+static size_t *lend_rows(size_t len)
+{
+    for (size_t i = 0; i < len + BEHIND; i++) {
+        rows_out[i] = SIZE_FILL;
+    }
+    return rows_out;
+}
+
+static bool rows_are(size_t len, struct rows rows)
+{
+    for (size_t i = 0; i < len + BEHIND; i++) {
+        if (rows_out[i] != (i < rows.len ? rows.at[i] : SIZE_FILL)) {
+            return false;
+        }
+    }
+    return true;
+}
+
 static const struct slice NOTHING = {(const uint8_t *)"", 0};
 
 static struct slice written(uint32_t refusal, struct slice text)
@@ -462,6 +491,27 @@ static bool pal_block_is(struct slice b, uint32_t refusal, size_t at, size_t len
     return part_is(got, pos, len, more, refusal, at, length, needed);
 }
 
+/* The function of the archive for the rows of one of the two lists. */
+typedef uint32_t rows_call(const uint8_t *, size_t, size_t *, size_t, size_t *, size_t *);
+
+static bool call_gives(rows_call *call, struct slice b, size_t rows_len, uint32_t refusal, struct rows rows, size_t needed)
+{
+    struct size_out len = SIZE_OUT, more = SIZE_OUT;
+    uint32_t got = call(b.at, b.len, lend_rows(rows_len), rows_len, &len.value, &more.value);
+    return got == refusal && rows_are(rows_len, refusal == 0 ? rows : NO_ROWS) && size_is(len, refusal == 0, rows.len)
+           && size_is(more, true, needed);
+}
+
+static bool textures_are(struct slice b, size_t rows_len, uint32_t refusal, struct rows rows, size_t needed)
+{
+    return call_gives(rasclanya_textures, b, rows_len, refusal, rows, needed);
+}
+
+static bool palettes_are(struct slice b, size_t rows_len, uint32_t refusal, struct rows rows, size_t needed)
+{
+    return call_gives(rasclanya_palettes, b, rows_len, refusal, rows, needed);
+}
+
 static bool print_safe_is(struct slice name, size_t out_len, uint32_t refusal, struct slice text)
 {
     struct size_out len = SIZE_OUT;
@@ -541,6 +591,10 @@ static void check_refused(struct slice b, uint32_t refusal, size_t needed, size_
     CHECK(data1_is(b, 0, refusal, 0, 0, needed));
     CHECK(data2_is(b, 0, refusal, 0, 0, needed));
     CHECK(pal_block_is(b, refusal, 0, 0, needed));
+    CHECK(textures_are(b, MAX_ROWS, refusal, NO_ROWS, needed));
+    CHECK(textures_are(b, 0, refusal, NO_ROWS, needed));
+    CHECK(palettes_are(b, MAX_ROWS, refusal, NO_ROWS, needed));
+    CHECK(palettes_are(b, 0, refusal, NO_ROWS, needed));
     CHECK(picture_is(b, 0, with_palette(0), 256, refusal, NOTHING, needed));
     CHECK(picture_is(b, SIZE_MAX, with_palette(SIZE_MAX), 0, refusal, NOTHING, needed));
     CHECK(fetch_tex_is(b, refusal, 0, 0, short_answers, needed));
@@ -634,6 +688,70 @@ static void check_data(struct slice b)
     CHECK(data2_is(b, ((size_t)1 << 32) + 1, RASCLANYA_TEXTURE_NUMBER, 0, 0, 0));
     CHECK(pal_block_is(b, 0, 64, 80, 0));
     CHECK(pal_block_is(sample_with(48, 0), 0, 0, 0, 0));
+}
+
+/* The rows of the block's textures and palettes. */
+static const size_t TEXTURE_ROWS[TEXTURES * RASCLANYA_TEXTURE_ROW] = {
+    220, 0x0c090000, 304, 32, 0, 0,
+    236, 0x14040002, 336, 16, 352, 8,
+    252, 0x04020007, 360, 64, 0, 0,
+    268, 0x00000010, 0, 0, 0, 0,
+    284, 0x1c800010, 432, 256, 0, 0,
+};
+static const size_t PALETTE_ROWS[PALETTES * RASCLANYA_PALETTE_ROW] = {720, 8, 736, 40};
+static const struct rows ALL_TEXTURES = {TEXTURE_ROWS, TEXTURES * RASCLANYA_TEXTURE_ROW};
+static const struct rows ALL_PALETTES = {PALETTE_ROWS, PALETTES * RASCLANYA_PALETTE_ROW};
+
+/* In an output of their length, in longer ones, and in shorter ones, down to 0. */
+static void check_rows(struct slice b)
+{
+    static const size_t MORE[] = {0, 1, 9, MAX_ROWS - TEXTURES * RASCLANYA_TEXTURE_ROW};
+    for (size_t i = 0; i < sizeof MORE / sizeof MORE[0]; i++) {
+        CHECK(textures_are(b, ALL_TEXTURES.len + MORE[i], 0, ALL_TEXTURES, 0));
+        CHECK(palettes_are(b, ALL_PALETTES.len + MORE[i], 0, ALL_PALETTES, 0));
+    }
+    for (size_t len = 0; len < ALL_TEXTURES.len; len++) {
+        CHECK(textures_are(b, len, RASCLANYA_OUTPUT, NO_ROWS, 0));
+    }
+    for (size_t len = 0; len < ALL_PALETTES.len; len++) {
+        CHECK(palettes_are(b, len, RASCLANYA_OUTPUT, NO_ROWS, 0));
+    }
+}
+
+#define MOST RASCLANYA_MAX_COUNT
+#define TEXTURE_LIST 60
+#define PALETTE_LIST(entries) (TEXTURE_LIST + 16 + 28 * (entries))
+
+static uint8_t many[PALETTE_LIST(MOST) + 16 + 24 * MOST];
+static size_t many_textures[MOST * RASCLANYA_TEXTURE_ROW], many_palettes[MOST * RASCLANYA_PALETTE_ROW];
+
+/* A block that has so many textures of format 0, so many palettes, and nothing else. Number n of either has an offset by n. */
+static struct slice make_many(size_t entries)
+{
+    memset(many, 0, sizeof many);
+    memcpy(many, "TEX0", 4);
+    put16(many + 14, TEXTURE_LIST);
+    put32(many + 52, (uint32_t)PALETTE_LIST(entries));
+    open_list(many + TEXTURE_LIST, entries, 8);
+    open_list(many + PALETTE_LIST(entries), entries, 4);
+    for (size_t n = 0; n < entries; n++) {
+        put_entry(many + TEXTURE_LIST, n, (uint32_t)n, (uint8_t)n);
+        put_entry(many + PALETTE_LIST(entries), n, (uint32_t)(257 * n), (uint8_t)n);
+    }
+    return slice(many, PALETTE_LIST(entries) + 16 + 24 * entries);
+}
+
+static void check_many_rows(size_t entries)
+{
+    struct slice b = make_many(entries);
+    for (size_t n = 0; n < entries; n++) {
+        many_textures[RASCLANYA_TEXTURE_ROW * n] = TEXTURE_LIST + 16 + 12 * entries + 16 * n;
+        many_textures[RASCLANYA_TEXTURE_ROW * n + 1] = n;
+        many_palettes[RASCLANYA_PALETTE_ROW * n] = PALETTE_LIST(entries) + 16 + 8 * entries + 16 * n;
+        many_palettes[RASCLANYA_PALETTE_ROW * n + 1] = 8 * 257 * n;
+    }
+    CHECK(textures_are(b, MAX_ROWS, 0, (struct rows){many_textures, RASCLANYA_TEXTURE_ROW * entries}, 0));
+    CHECK(palettes_are(b, MAX_ROWS, 0, (struct rows){many_palettes, RASCLANYA_PALETTE_ROW * entries}, 0));
 }
 
 /* ---- Names. */
@@ -922,14 +1040,21 @@ static void check_listings(void)
 
 #define LONG_LEN (((size_t)1 << 32) + 3)
 
-/* Zeros, of which only those that are touched take memory, behind a copy of some bytes. */
-static uint8_t *long_bytes(struct slice start)
+/* Zeros, of which only those that are touched take memory. */
+static void *long_zeros(size_t size)
 {
-    void *at = mmap(NULL, LONG_LEN, PROT_READ | PROT_WRITE, MAP_PRIVATE | MAP_ANONYMOUS | MAP_NORESERVE, -1, 0);
+    void *at = mmap(NULL, size, PROT_READ | PROT_WRITE, MAP_PRIVATE | MAP_ANONYMOUS | MAP_NORESERVE, -1, 0);
     if (at == MAP_FAILED) {
-        perror("calls: no address space for a slice of 4 GiB");
+        perror("calls: no address space for a slice of more than 4 GiB");
         exit(EXIT_FAILURE);
     }
+    return at;
+}
+
+/* The same behind a copy of some bytes. */
+static uint8_t *long_bytes(struct slice start)
+{
+    uint8_t *at = long_zeros(LONG_LEN);
     memcpy(at, start.at, start.len);
     return at;
 }
@@ -946,6 +1071,8 @@ static void check_long_block(void)
     CHECK(data1_is(b, 4, 0, 432, 256, 0));
     CHECK(data2_is(b, 1, 0, 352, 8, 0));
     CHECK(pal_block_is(b, 0, 64, 80, 0));
+    CHECK(textures_are(b, MAX_ROWS, 0, ALL_TEXTURES, 0));
+    CHECK(palettes_are(b, MAX_ROWS, 0, ALL_PALETTES, 0));
     CHECK(picture_is(b, 1, with_palette(1), 256, 0, block_picture(1, 20), 0));
     CHECK(fetch_picture_is(b, 1, with_palette(1), 256, 0, block_picture(1, 20), 12, 0));
     CHECK(list_is(b, 16, 0, "refused 13 0\n"));
@@ -1012,6 +1139,15 @@ static void check_long_outputs(void)
     munmap(to, LONG_LEN);
 }
 
+static void check_long_rows(void)
+{
+    size_t *to = long_zeros(LONG_LEN * sizeof(size_t));
+    size_t len, needed;
+    CHECK(rasclanya_textures(block, BLOCK_LEN, to, LONG_LEN, &len, &needed) == 0 && memcmp(to, TEXTURE_ROWS, sizeof TEXTURE_ROWS) == 0);
+    CHECK(rasclanya_palettes(block, BLOCK_LEN, to, LONG_LEN, &len, &needed) == 0 && memcmp(to, PALETTE_ROWS, sizeof PALETTE_ROWS) == 0);
+    munmap(to, LONG_LEN * sizeof(size_t));
+}
+
 /* ---- The program. */
 
 static void read_sample(const char *path)
@@ -1032,6 +1168,10 @@ static void check_block_calls(struct slice b)
     check_palettes(b);
     check_largest_offset();
     check_data(b);
+    check_rows(b);
+    check_many_rows(0);
+    check_many_rows(1);
+    check_many_rows(MOST);
     check_pictures(b);
     check_no_pictures(b);
 }
@@ -1062,6 +1202,7 @@ static void check_long_slices(void)
     check_far_palette_block();
     check_long_parts();
     check_long_outputs();
+    check_long_rows();
 }
 
 int main(int argc, char **argv)

@@ -122,6 +122,8 @@ impl Checker {
             ("texture_data1", rasclanya::texture_data1(block, 0).err()),
             ("texture_data2", rasclanya::texture_data2(block, 0).err()),
             ("pal_block", rasclanya::pal_block(block).err()),
+            ("textures", rasclanya::textures(block).err()),
+            ("palettes", rasclanya::palettes(block).err()),
             ("picture", self.untouched(64, |out| rasclanya::picture(block, 0, Some(0), out))?),
         ];
         for (call, answer) in answers {
@@ -144,6 +146,8 @@ impl Checker {
     /// A block that is read.
     fn read(&mut self, block: &[u8], textures: &[Texture], palettes: &[Palette], short_answers: usize) -> Checked {
         self.tally.read(textures.len(), palettes.len());
+        self.all_textures(block, textures)?;
+        self.all_palettes(block, palettes)?;
         for (t, texture) in textures.iter().enumerate() {
             self.texture(block, t, texture).map_err(|d| d.at(format!("texture {t}")))?;
         }
@@ -154,6 +158,24 @@ impl Checker {
             self.pictures(block, t, texture, palettes, short_answers).map_err(|d| d.at(format!("texture {t}")))?;
         }
         self.past_the_end(block, textures.len(), palettes.len())
+    }
+
+    /// The names, words and data of all textures, as one call gives them.
+    fn all_textures(&mut self, block: &[u8], textures: &[Texture]) -> Checked {
+        let port = rasclanya::textures(block).map_err(|e| Difference::new("all textures", APICULA, "textures", numbers(&e)))?;
+        self.same("all textures", textures.len(), port.len())?;
+        for (t, (texture, port)) in textures.iter().zip(&port).enumerate() {
+            let apicula = (texture.name.0, texture.params.0, &texture.data1[..], &texture.data2[..]);
+            self.same("all textures", apicula, (port.name.0, port.params.0, port.data1, port.data2)).map_err(|d| d.at(format!("texture {t}")))?;
+        }
+        Ok(())
+    }
+
+    /// The names and offsets of all palettes, as one call gives them.
+    fn all_palettes(&mut self, block: &[u8], palettes: &[Palette]) -> Checked {
+        let port = rasclanya::palettes(block).map_err(|e| Difference::new("all palettes", APICULA, "palettes", numbers(&e)))?;
+        let apicula: Vec<_> = palettes.iter().map(|palette| (palette.name.0, palette.off)).collect();
+        self.same("all palettes", apicula, port.iter().map(|palette| (palette.name.0, palette.off)).collect())
     }
 
     /// The record and the data of a texture.

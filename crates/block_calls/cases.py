@@ -36,7 +36,11 @@ def name_list(block, p, datum, dummy, size):
         raise Refused(size, 0)
     data = 16 + 4 * count
     names = data + datum * count
-    return [(whole[data + datum * i :], whole[names + 16 * i : names + 16 * i + 16]) for i in range(count)]
+    return [(whole[data + datum * i :], whole[names + 16 * i : names + 16 * i + 16], p + names + 16 * i) for i in range(count)]
+
+
+def place(p, part):
+    return [p if part else 0, len(part)]
 
 
 def read(block):
@@ -45,17 +49,20 @@ def read(block):
         raise Refused(2, 0)
     palette_block = take(block, number(header, 56, 4), 8 * number(header, 48, 2))
     textures = []
-    for datum, name in name_list(block, number(header, 14, 2), 8, 3, 4):
+    for datum, name, at in name_list(block, number(header, 14, 2), 8, 3, 4):
         word = number(datum, 0, 4)
         offset = 8 * (word & 0xFFFF)
         length = (8 << (word >> 20 & 7)) * (8 << (word >> 23 & 7)) * BITS[word >> 26 & 7] // 8
-        if word >> 26 & 7 == 5:
-            first = take(block, number(header, 36, 4) + offset, length)
-            second = take(block, number(header, 40, 4) + offset // 2, length // 2)
-        else:
-            first, second = take(block, number(header, 20, 4) + offset, length), b""
-        textures.append((name, word, first, second))
-    palettes = [(name, 8 * number(datum, 0, 2)) for datum, name in name_list(block, number(header, 52, 4), 4, 5, 6)]
+        compressed = word >> 26 & 7 == 5
+        pos1 = number(header, 36 if compressed else 20, 4) + offset
+        pos2 = number(header, 40, 4) + offset // 2
+        first = take(block, pos1, length)
+        second = take(block, pos2, length // 2) if compressed else b""
+        textures.append((name, word, first, second, [at, word] + place(pos1, first) + place(pos2, second)))
+    palettes = []
+    for datum, name, at in name_list(block, number(header, 52, 4), 4, 5, 6):
+        off = 8 * number(datum, 0, 2)
+        palettes.append((name, off, [at, off]))
     return textures, palettes, palette_block
 
 
@@ -95,6 +102,15 @@ def written(text, output):
     return b" %d " % len(text) + text + output[len(text) :] + b"\n"
 
 
+def rows(refused, entries, length):
+    numbers = [n for entry in entries for n in entry[-1]]
+    if refused is None and len(numbers) > length:
+        refused = (11, 0)
+    answer = refusal(refused) if refused else b" %d" % len(numbers)
+    output = ([] if refused else numbers) + [7] * length
+    return b"rows" + answer + b" of" + b"".join(b" %d" % n for n in output[:length]) + b"\n"
+
+
 def show(block):
     out = b"block %d\nreading" % len(block)
     refused, textures, palettes, palette_block = None, [], [], b""
@@ -106,14 +122,16 @@ def show(block):
         out += refusal(refused)
     out += b"\npal_block" + part(palette_block) + b"\n"
     for n in (0, 1, 2, LIMIT):
-        name, word, first, second = textures[n] if n < len(textures) else (bytes(16), 0, b"", b"")
+        name, word, first, second = textures[n][:4] if n < len(textures) else (bytes(16), 0, b"", b"")
         status = b" done" if n < len(textures) else refusal(refused or (7, 0))
         fields = "%d %s %s %s" % (word, wrap(word >> 16 & 1, word >> 18 & 1), wrap(word >> 17 & 1, word >> 19 & 1), alpha(word))
         out += b"texture %d%s %s%s\ndata1%s\ndata2%s\n" % (n, status, fields.encode(), part(name), part(first), part(second))
     for n in (0, 1, LIMIT):
-        name, off = palettes[n] if n < len(palettes) else (bytes(16), 0)
+        name, off = palettes[n][:2] if n < len(palettes) else (bytes(16), 0)
         status = b" done" if n < len(palettes) else refusal(refused or (8, 0))
         out += b"palette %d%s %d%s\n" % (n, status, off, part(name))
+    for entries, length in ((textures, 19), (textures, 5), (palettes, 5), (palettes, 1)):
+        out += rows(refused, entries, length)
     name = textures[0][0] if textures else bytes(16)
     for word, text, fill in ((b"safe", safe(name), b"."), (b"display", display(name), b"-")):
         out += word + written(text, fill * 32) + word + written(text, fill * 3)

@@ -70,12 +70,13 @@ fn print_readings(rounds: usize) {
     println!();
     println!("## Reading a block");
     println!();
-    println!("Blocks with as many palettes as textures, each texture of 8 by 8 texels, all formats but 0. apicula's `read_tex` copies all names,");
-    println!("data and the palette block. The port's `read_tex` checks all of them and gives both counts: this is the reading. Records and parts");
-    println!("are given by a call each, which reads the block anew, so that asking for all of them takes time by the square of their number; the");
-    println!("last column has apicula's `read_tex` against the port's `read_tex` with the records and parts of every texture and palette.");
+    println!("Blocks with as many palettes as textures, each texture of 8 by 8 texels, all formats but 0. apicula's `read_tex` gives all names,");
+    println!("words, data and palettes, as copies. The port's `read_tex` checks all of them and gives both counts: this is the reading. The same");
+    println!("things as apicula's are given by `textures`, `palettes` and `pal_block`, data and palette block as parts of the block: each reads");
+    println!("the block once, and the last column has all three. The calls for one record or part read the block each time, so that they are for");
+    println!("those who want few.");
     println!();
-    println!("| textures | `read_tex` | `read_tex`, all records and parts |");
+    println!("| textures | `read_tex` | `textures`, `palettes`, `pal_block` |");
     println!("|---|---|---|");
     for count in COUNTS {
         let [reading, all] = reading_ratios(rounds, &block(count));
@@ -93,7 +94,7 @@ fn block(count: usize) -> Vec<u8> {
     Plan { textures, palettes, pal_units }.lay_out(&mut random)
 }
 
-/// apicula's reading against the port's, and against the port's with all records and parts.
+/// apicula's reading against the port's, and against the port's calls that give the same things.
 fn reading_ratios(rounds: usize, block: &[u8]) -> [f64; 2] {
     let counts = rasclanya::read_tex(block).expect("the port reads the block");
     let (textures, palettes) = apicula::read_tex(block).expect("apicula reads the block");
@@ -107,17 +108,10 @@ fn reading_ratios(rounds: usize, block: &[u8]) -> [f64; 2] {
     [apicula / reading, apicula / all]
 }
 
-/// The port's reading, and all records and parts.
+/// All that apicula's reading gives, from the port.
 fn read_all(block: &[u8]) {
-    let Ok(counts) = rasclanya::read_tex(block) else { return };
-    for t in 0..counts.textures {
-        let _ = black_box(rasclanya::texture(block, t));
-        let _ = black_box(rasclanya::texture_data1(block, t));
-        let _ = black_box(rasclanya::texture_data2(block, t));
-    }
-    for p in 0..counts.palettes {
-        let _ = black_box(rasclanya::palette(block, p));
-    }
+    let _ = black_box(rasclanya::textures(block));
+    let _ = black_box(rasclanya::palettes(block));
     let _ = black_box(rasclanya::pal_block(block));
 }
 

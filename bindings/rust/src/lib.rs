@@ -56,6 +56,7 @@
 mod ffi;
 
 use std::fmt;
+use std::mem::MaybeUninit;
 
 /// The length of a name in bytes.
 const NAME_LEN: usize = 16;
@@ -560,16 +561,20 @@ pub fn pal_block(block: &[u8]) -> Result<&[u8], Error> {
 type RowsCall =
     unsafe extern "C" fn(*const u8, usize, *mut usize, usize, *mut usize, *mut usize) -> u32;
 
-/// The rows of a list, of `N` numbers each.
+/// The entries of a list, each made from its row of `N` numbers.
 ///
 /// # Safety
 ///
 /// The function keeps to the header's rules for its slices and its numbers, and its rows have `N` numbers.
-unsafe fn rows<const N: usize>(call: RowsCall, block: &[u8]) -> Result<Vec<[usize; N]>, Error> {
-    let mut rows: Vec<[usize; N]> = Vec::with_capacity(MAX_COUNT);
+unsafe fn entries<T, const N: usize>(
+    call: RowsCall,
+    block: &[u8],
+    entry: impl Fn([usize; N]) -> T,
+) -> Result<Vec<T>, Error> {
+    let mut rows = [const { MaybeUninit::<[usize; N]>::uninit() }; MAX_COUNT];
     let (mut len, mut needed) = (0, 0);
-    // SAFETY: the block is a slice, the output is the memory reserved for the rows, which the function does not read, and each number is a
-    // variable of its own.
+    // SAFETY: the block is a slice, the rows are memory that the function writes to and does not read, and each number is a variable of its
+    // own.
     let number = unsafe {
         call(
             block.as_ptr(),
@@ -581,9 +586,12 @@ unsafe fn rows<const N: usize>(call: RowsCall, block: &[u8]) -> Result<Vec<[usiz
         )
     };
     done(number, needed)?;
+    let rows = &rows[..len / N];
     // SAFETY: the function has written the first `len` numbers.
-    unsafe { rows.set_len(len / N) };
-    Ok(rows)
+    Ok(rows
+        .iter()
+        .map(|row| entry(unsafe { row.assume_init() }))
+        .collect())
 }
 
 /// The name at a position of the block.
@@ -595,26 +603,24 @@ fn name_at(block: &[u8], pos: usize) -> Name {
 
 /// All textures, in list order, from one reading of the block. The calls for one texture read the block each time.
 pub fn textures(block: &[u8]) -> Result<Vec<TextureParts<'_>>, Error> {
-    // SAFETY: the function is one of the archive's rows, and a texture's has six numbers.
-    let rows = unsafe { rows(ffi::rasclanya_textures, block)? };
-    let parts = |[name, word, pos1, len1, pos2, len2]: [usize; 6]| TextureParts {
+    let texture = |[name, word, pos1, len1, pos2, len2]: [usize; 6]| TextureParts {
         name: name_at(block, name),
         params: TextureParams(word as u32),
         data1: &block[pos1..][..len1],
         data2: &block[pos2..][..len2],
     };
-    Ok(rows.into_iter().map(parts).collect())
+    // SAFETY: the function is one of the archive's rows, and a texture's has six numbers.
+    unsafe { entries(ffi::rasclanya_textures, block, texture) }
 }
 
 /// All palettes, in list order, from one reading of the block.
 pub fn palettes(block: &[u8]) -> Result<Vec<Palette>, Error> {
-    // SAFETY: the function is one of the archive's rows, and a palette's has two numbers.
-    let rows = unsafe { rows(ffi::rasclanya_palettes, block)? };
-    let record = |[name, off]: [usize; 2]| Palette {
+    let palette = |[name, off]: [usize; 2]| Palette {
         name: name_at(block, name),
         off: off as u32,
     };
-    Ok(rows.into_iter().map(record).collect())
+    // SAFETY: the function is one of the archive's rows, and a palette's has two numbers.
+    unsafe { entries(ffi::rasclanya_palettes, block, palette) }
 }
 
 /// Decodes a texture whose data need not stand in a block, and returns the picture's length in bytes.

@@ -8,7 +8,7 @@ mod ffi;
 
 use blocks::{
     block, block_picture, colors, compressed, far_palette_block, palette_name, texture_name,
-    SAMPLE, WORDS,
+    with_entries, SAMPLE, WORDS,
 };
 use ffi::*;
 // The archive is linked with the crate.
@@ -236,7 +236,26 @@ fn rows() {
     let word = |n: usize| WORDS[n] as usize;
     assert_eq!(
         out[6..24],
-        [236, word(1), 336, 16, 352, 8, 252, word(2), 360, 64, 0, 0, 268, word(3), 0, 0, 0, 0]
+        [
+            236,
+            word(1),
+            336,
+            16,
+            352,
+            8,
+            252,
+            word(2),
+            360,
+            64,
+            0,
+            0,
+            268,
+            word(3),
+            0,
+            0,
+            0,
+            0
+        ]
     );
     assert_eq!(out[30..], [usize::MAX; 10]);
     let mut out = [usize::MAX; 8];
@@ -254,6 +273,26 @@ fn rows() {
     assert_eq!((number, len, needed), (0, size(4), size(0)));
     assert_eq!(out[..4], [720, 8, 736, 40]);
     assert_eq!(out[4..], [usize::MAX; 4]);
+}
+
+/// The most rows, in an output of their length.
+#[test]
+fn most_rows() {
+    let block = with_entries(255);
+    let mut out = [usize::MAX; 6 * 255 + 1];
+    let (mut len, mut needed) = (SIZE, SIZE);
+    let number = unsafe {
+        rasclanya_textures(
+            block.as_ptr(),
+            block.len(),
+            out.as_mut_ptr(),
+            6 * 255usize,
+            &mut len[0],
+            &mut needed[0],
+        )
+    };
+    assert_eq!((number, len, needed), (0, size(1530), size(0)));
+    assert_eq!(out[1524..], [7200, 0x0c0003f8, 21480, 32, 0, 0, usize::MAX]);
 }
 
 #[test]

@@ -326,7 +326,10 @@ fn same_texture(block: &[u8], n: usize, got: TextureParts<'_>) {
     assert_eq!((got.name, got.params), (record.name, record.params));
     let parts = [got.data1, got.data2].map(<[u8]>::as_ptr_range);
     let single = [texture_data1(block, n), texture_data2(block, n)];
-    assert_eq!(parts.map(Ok), single.map(|part| part.map(<[u8]>::as_ptr_range)));
+    assert_eq!(
+        parts.map(Ok),
+        single.map(|part| part.map(<[u8]>::as_ptr_range))
+    );
 }
 
 #[test]

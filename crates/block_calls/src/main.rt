@@ -1,6 +1,7 @@
 // Writes what the calls of `nitro` and `name` answer for each block of its standard input, a line a call. A block is preceded by its
 // length, in 4 bytes.
 use errors::Counted;
+use errors::Kind;
 use errors::Refusal;
 use errors::Status;
 use libc::STDIN_FILENO;
@@ -74,12 +75,16 @@ fn part(bytes: &[u8]) {
     }
 }
 
-// What a name call answered, and all of its output.
-fn written(c: Counted, out: &[u8]) {
+fn counted(c: Counted) {
     match c {
         Counted::Count(n) => number(n as u64),
         Counted::Refused(refusal) => refused(refusal),
     }
+}
+
+// What a name call answered, and all of its output.
+fn written(c: Counted, out: &[u8]) {
+    counted(c);
     text(b" ");
     text(out);
 }
@@ -148,6 +153,31 @@ fn palettes(block: &[u8], n: usize) {
     text(b"\n");
 }
 
+// What the call for all rows of a kind answered, and all of its output.
+fn rows(c: Counted, out: &[usize]) {
+    text(b"rows");
+    counted(c);
+    text(b" of");
+    let mut i = 0;
+    while i < out.len() {
+        number(out[i] as u64);
+        i += 1;
+    }
+    text(b"\n");
+}
+
+// The rows of both kinds, in outputs that are long enough for three textures and two palettes, and in short ones.
+fn all_rows(block: &[u8]) {
+    let mut textures = [7usize; 19];
+    let mut palettes = [7usize; 5];
+    let mut short_textures = [7usize; 5];
+    let mut short_palettes = [7usize; 1];
+    rows(tex::rows(block, Kind::Texture, &mut textures), &textures);
+    rows(tex::rows(block, Kind::Texture, &mut short_textures), &short_textures);
+    rows(tex::rows(block, Kind::Palette, &mut palettes), &palettes);
+    rows(tex::rows(block, Kind::Palette, &mut short_palettes), &short_palettes);
+}
+
 fn show(block: &[u8]) {
     text(b"block");
     number(block.len() as u64);
@@ -169,6 +199,7 @@ fn show(block: &[u8]) {
     palettes(block, 0);
     palettes(block, 1);
     palettes(block, 18446744073709551615);
+    all_rows(block);
     let first = tex::texture(block, 0);
     let record = first.texture;
     let name = record.name;

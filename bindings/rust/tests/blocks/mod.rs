@@ -54,26 +54,23 @@ fn list<const N: usize>(data: &[[u8; N]], names: &[[u8; 16]]) -> Vec<u8> {
 
 fn texture_list() -> Vec<u8> {
     let data = WORDS.map(|word| (u64::from(word) | 0xffff_ffff << 32).to_le_bytes());
-    list(
-        &data,
-        &std::array::from_fn::<_, TEXTURES, _>(texture_name),
-    )
+    list(&data, &std::array::from_fn::<_, TEXTURES, _>(texture_name))
 }
 
 /// The palettes' offsets are 8 and 40 bytes.
 fn palette_list() -> Vec<u8> {
     let data = [[1, 0, 0xff, 0xff], [5, 0, 0xff, 0xff]];
-    list(
-        &data,
-        &std::array::from_fn::<_, PALETTES, _>(palette_name),
-    )
+    list(&data, &std::array::from_fn::<_, PALETTES, _>(palette_name))
 }
 
 /// A block with so many textures of format 3 and so many palettes, each with a name, a word and an offset that no other has, and without a
 /// palette block.
 pub fn with_entries(count: usize) -> Vec<u8> {
     let all = 0..count as u64;
-    let words: Vec<[u8; 8]> = all.clone().map(|n| (0x0c000000 + 4 * n).to_le_bytes()).collect();
+    let words: Vec<[u8; 8]> = all
+        .clone()
+        .map(|n| (0x0c000000 + 4 * n).to_le_bytes())
+        .collect();
     let offs: Vec<[u8; 4]> = all.map(|n| (n as u32).to_le_bytes()).collect();
     let textures = list(&words, &(0..count).map(name).collect::<Vec<_>>());
     let palettes = list(&offs, &(0..count).map(|n| name(2 * n)).collect::<Vec<_>>());
@@ -81,7 +78,11 @@ pub fn with_entries(count: usize) -> Vec<u8> {
     put(&mut block, 0, b"TEX0");
     put(&mut block, 14, &60u16.to_le_bytes());
     put(&mut block, 52, &(60 + textures.len() as u32).to_le_bytes());
-    put(&mut block, 20, &(60 + (textures.len() + palettes.len()) as u32).to_le_bytes());
+    put(
+        &mut block,
+        20,
+        &(60 + (textures.len() + palettes.len()) as u32).to_le_bytes(),
+    );
     block.extend(textures);
     block.extend(palettes);
     block.extend((0..32 * count).map(|i| i as u8));
