@@ -173,9 +173,15 @@ fn all_rows(block: &[u8]) {
     let mut short_textures = [7usize; 5];
     let mut short_palettes = [7usize; 1];
     rows(tex::rows(block, Kind::Texture, &mut textures), &textures);
-    rows(tex::rows(block, Kind::Texture, &mut short_textures), &short_textures);
+    rows(
+        tex::rows(block, Kind::Texture, &mut short_textures),
+        &short_textures,
+    );
     rows(tex::rows(block, Kind::Palette, &mut palettes), &palettes);
-    rows(tex::rows(block, Kind::Palette, &mut short_palettes), &short_palettes);
+    rows(
+        tex::rows(block, Kind::Palette, &mut short_palettes),
+        &short_palettes,
+    );
 }
 
 fn show(block: &[u8]) {

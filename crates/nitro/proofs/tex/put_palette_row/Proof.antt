@@ -1,7 +1,12 @@
 -- `nitro::tex::put_palette_row` meets its contract: two numbers, one behind the other. Assumes nothing.
+use Prim.Native.Nat.{_*_}
+use mathlib.Core.Path.{_≡_}
 use native.Mathlib.Numerals.{add-one}
 use native.Mathlib.Omega.{arith}
 use lib.ListN.{length-set}
+use denote.Ref.{now}
+use Rattle.errors.specs.declared.Kind.the-variants as kinds
+use Rattle.info_block.specs.InfoBlock.{listAt, entryNumber}
 use Rattle.nitro.specs.Layouts.{rowBy}
 use borrow.Author.Needs.{needs}
 use Rattle.nitro.proofs.tex.put_palette_row.Statement.{statement}
@@ -57,7 +62,11 @@ same-length c = search needs
 
 returns : tie.Need-returns
 unfolding rowBy
-returns c = rw (c .off-at .ensures, add-one)
+returns c =
+    let a = c .before .before .before .before .before .args in
+    let list = listAt kinds.Palette (a .layout .header .«palette_off») (a .layout .palettes) (now (a .block)) in
+    let off : c .off-at .result ≡ 8 * entryNumber kinds.Palette 2 list (a .n) = c .off-at .ensures in
+    rw (off, add-one)
 
 pub put-palette-row-spec : {M : Type 1} → statement M
 put-palette-row-spec =

@@ -1,8 +1,9 @@
 -- `nitro::tex::put_texture_row` meets its contract: six numbers, one behind the other. Assumes nothing.
+use mathlib.Core.Path.{_≡_}
 use native.Mathlib.Omega.{arith}
 use lib.ListN.{length-set}
 use denote.Ref.{now}
-use Rattle.nitro.specs.Layouts.{rowBy}
+use Rattle.nitro.specs.Layouts.{toldPos, rowBy}
 use Rattle.nitro.proofs.Rows.{six-put}
 use borrow.Author.Needs.{needs}
 use Rattle.nitro.proofs.tex.put_texture_row.Statement.{statement}
@@ -104,7 +105,9 @@ returns c =
     let p = c .before .before .before .before .before in
     let a = p .before .before .before .before .before .args in
     let places = p .places-of .result in
-    rw (← p .places-of .ensures, ← c .before .told-pos .ensures, ← c .told-pos2 .ensures)
+    let first : c .before .told-pos .result ≡ toldPos (places .data1) = c .before .told-pos .ensures in
+    let second : c .told-pos2 .result ≡ toldPos (places .data2) = c .told-pos2 .ensures in
+    rw (← p .places-of .ensures, ← first, ← second)
     (six-put (now (a .rows)) (a .at) _ (places .params .0) (c .before .told-pos .result) (places .data1 .len) (c .told-pos2 .result)
     (places .data2 .len))
 
