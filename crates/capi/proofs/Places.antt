@@ -13,7 +13,7 @@ use Rattle.util.specs.Take.{takenPart}
 use Rattle.errors.specs.Refusal.{refusalOutcome}
 use Rattle.errors.specs.declared.Refusal.{Refusal}
 use Rattle.info_block.specs.Script.{run}
-use Rattle.nitro.specs.Tex.{readTex}
+use Rattle.reading.specs.Tex.{readTex}
 use Rattle.nitro.specs.Calls.{data1Of, data2Of, palBlockOf, placesOf, palPlaceOf, partAt}
 use Rattle.nitro.specs.declared.tex.PaletteChoice.the-variants as choice
 use Rattle.nitro.specs.declared.tex.Place.{Place}

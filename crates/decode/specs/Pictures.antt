@@ -8,7 +8,7 @@ use Rattle.util.specs.Outcome.{Outcome, result, refusal, _>>=_}
 use Rattle.nds.specs.Params.{width, height, format, color0Transparent}
 use Rattle.nds.specs.Formats.{paletteNeeded, dataLength, secondLength}
 use Rattle.info_block.specs.Script.{Answer}
-use Rattle.nitro.specs.Tex.{Contents}
+use Rattle.reading.specs.Tex.{Contents}
 use Rattle.nitro.specs.Calls.{Sources, sourcesOf}
 use Rattle.nitro.specs.declared.tex.PaletteChoice.{PaletteChoice}
 use Rattle.nitro.specs.declared.tex.PaletteOff.{PaletteOff}

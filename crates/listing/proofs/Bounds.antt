@@ -13,9 +13,9 @@ use Rattle.errors.specs.Output.{piecesFrom}
 use Rattle.errors.specs.Refusal.{Fault, badStamp, badDummy, badSize, faultNumber}
 use Rattle.errors.specs.declared.Kind.the-variants.{Texture, Palette}
 use Rattle.info_block.specs.Script.{Answer, short, fault, whole, run, outcomeOf}
-use Rattle.nitro.specs.Tex.{Contents, readTex}
+use Rattle.reading.specs.Tex.{Contents, readTex}
 use Rattle.nitro.specs.Calls.{textureRecord, paletteRecord}
-use Rattle.nitro.proofs.Sizes.{want-small, textures-few, palettes-few, texture-name, palette-name, palette-off}
+use Rattle.reading.proofs.Sizes.{want-small, textures-few, palettes-few, texture-name, palette-name, palette-off}
 use Rattle.text.specs.Text.{ascii, decimal, line}
 use Rattle.lines.specs.Lines.{textureLine, paletteLine}
 use Rattle.lines.proofs.Lengths.{texture-length, palette-length}

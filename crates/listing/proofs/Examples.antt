@@ -8,7 +8,7 @@ use Rattle.nds.specs.Formats.{alpha, dataLength}
 use Rattle.name.specs.Name.{trimmed, safeText}
 use Rattle.info_block.specs.Script.{run, outcomeOf, bytesAt, expect, eachFrom, _>>=_, _>>_}
 use Rattle.info_block.specs.InfoBlock.{wholeList, nameList}
-use Rattle.nitro.specs.Tex.{headerOf, dataAt, readHeader, readPalBlock, readSecond, readData, readTexture, readTextures, readPalettes, readTex}
+use Rattle.reading.specs.Tex.{headerOf, dataAt, readHeader, readPalBlock, readSecond, readData, readTexture, readTextures, readPalettes, readTex}
 use Rattle.nitro.proofs.Sample.{leaf, sample}
 use Rattle.text.specs.Text.{ascii, decimalBelow, decimal, line}
 use Rattle.errors.specs.Output.{piecesFrom}

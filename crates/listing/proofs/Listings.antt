@@ -12,7 +12,7 @@ use Rattle.errors.specs.declared.Kind.the-variants.{Texture, Palette}
 use Rattle.errors.specs.declared.Refusal.{Refusal}
 use Rattle.errors.proofs.Refusals.{refusal-not}
 use Rattle.info_block.specs.Script.{Answer, short, fault, whole, run, outcomeOf}
-use Rattle.nitro.specs.Tex.{Contents, readTex}
+use Rattle.reading.specs.Tex.{Contents, readTex}
 use Rattle.nitro.specs.Calls.{Counts, countsOf, readingOf}
 use Rattle.listing.specs.Listing.{refusedLine, printed, listsOf, listingOutcome, listingText}
 use Rattle.listing.specs.Lists.{listOf}

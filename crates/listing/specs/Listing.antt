@@ -8,7 +8,7 @@ use lib.Dec.{ltb}
 use Rattle.util.specs.Outcome.{Outcome, result, refusal}
 use Rattle.errors.specs.Output.{piecesFrom}
 use Rattle.info_block.specs.Script.{run, outcomeOf}
-use Rattle.nitro.specs.Tex.{Contents, readTex}
+use Rattle.reading.specs.Tex.{Contents, readTex}
 use Rattle.nitro.specs.Calls.{textureRecord, paletteRecord}
 use Rattle.nitro.specs.declared.tex.TextureRecord.{TextureRecord}
 use Rattle.nitro.specs.declared.tex.PaletteRecord.{PaletteRecord}

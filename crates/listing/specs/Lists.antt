@@ -2,7 +2,7 @@
 use Prim.Native.Nat.{ℕ}
 use mathlib.Core.List.{List, [], _∷_, _++_}
 use Rattle.info_block.specs.Script.{Answer}
-use Rattle.nitro.specs.Tex.{Contents}
+use Rattle.reading.specs.Tex.{Contents}
 use Rattle.nitro.specs.Calls.{textureOf, paletteOf, noTexture, noPalette, valueOr}
 use Rattle.errors.specs.Output.{pieces}
 use Rattle.errors.specs.declared.Kind.{Kind}

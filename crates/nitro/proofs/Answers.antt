@@ -17,13 +17,14 @@ use Rattle.errors.specs.declared.Status.the-variants.{Done, Refused}
 use Rattle.errors.proofs.Refusals.{refusal-not, refusal-any}
 use Rattle.info_block.specs.Script.{Answer, short, fault, whole, run, outcomeOf}
 use Rattle.info_block.specs.InfoBlock.{listAt, listLength}
-use Rattle.nitro.specs.Tex as Tex
-use Rattle.nitro.specs.Tex.{Contents, headerOf, readTex}
+use Rattle.reading.specs.Tex as Tex
+use Rattle.reading.specs.Tex.{Contents, headerOf, readTex}
 use Rattle.nitro.specs.Calls.{Answers, entry, textureEntry, paletteEntry, valueOr, readingOf, textureOf, partOf, data1Of, data2Of, palBlockOf}
 use Rattle.nitro.specs.Calls.{Sources, chosenOf, sourcesOf, sourcesAt, placesAt, placesOf, partAt, palPlaceAt, palPlaceOf}
-use Rattle.nitro.specs.Layouts.{countOf, layoutOf, layoutWith, hasChoice, chosenAt, placesBy}
-use Rattle.nitro.specs.declared.tex.Header.{Header}
-use Rattle.nitro.specs.declared.tex.Layout.{Layout}
+use Rattle.reading.specs.Layouts.{layoutOf}
+use Rattle.nitro.specs.ByLayout.{countOf, layoutWith, hasChoice, chosenAt, placesBy}
+use Rattle.reading.specs.declared.Header.{Header}
+use Rattle.reading.specs.declared.Layout.{Layout}
 use Rattle.nitro.specs.declared.tex.PaletteChoice.{PaletteChoice}
 use Rattle.nitro.specs.declared.tex.PaletteChoice.the-variants as choices
 use Rattle.nitro.specs.declared.tex.PaletteOff.{PaletteOff}
@@ -31,7 +32,7 @@ use Rattle.nitro.specs.declared.tex.PaletteOff.the-variants as offs
 use Rattle.nitro.specs.declared.tex.Place.{Place}
 use Rattle.nitro.specs.declared.tex.Places.{Places}
 use Rattle.info_block.proofs.Runs.{whole-outcome, ended, follows-self, refused}
-use Rattle.nitro.proofs.Readings.{TextureAt, finished, textures-listed, palettes-listed, pal-block-whole}
+use Rattle.reading.proofs.Readings.{TextureAt, finished, textures-listed, palettes-listed, pal-block-whole}
 
 -- entry n of a list, and none
 module _ {A B : Type 0} (k : Kind) (f : A → B) where

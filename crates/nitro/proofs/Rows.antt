@@ -21,12 +21,13 @@ use Rattle.errors.specs.declared.Refusal.{Refusal}
 use Rattle.errors.proofs.Outputs.{sets-append, writes-sets, writes-short, pieces-length, pieces-listed}
 use Rattle.info_block.specs.Script.{whole, run}
 use Rattle.info_block.specs.InfoBlock.{nameAt, listLength}
-use Rattle.nitro.specs.Tex.{Texture, Palette, Contents, headerOf, dataAt, secondAt, readTex}
-use Rattle.nitro.specs.Layouts.{layoutOf, layoutAnswer, countOf, placesBy, listEnd, rowLength, rowBy}
+use Rattle.reading.specs.Tex.{Texture, Palette, Contents, headerOf, dataAt, secondAt, readTex}
+use Rattle.reading.specs.Layouts.{layoutOf, layoutAnswer}
+use Rattle.nitro.specs.ByLayout.{countOf, placesBy, listEnd, rowLength, rowBy}
 use Rattle.nitro.specs.Rows.{placeOf, Inside, namePlace, data1Place, data2Place, textureRow, paletteRow, rowsIn, rowsOf}
-use Rattle.nitro.specs.declared.tex.Layout.{Layout}
+use Rattle.reading.specs.declared.Layout.{Layout}
 use Rattle.info_block.proofs.Runs.{whole-outcome, ended, follows-self, refused}
-use Rattle.nitro.proofs.Readings.{finished, textures-listed, palettes-listed}
+use Rattle.reading.proofs.Readings.{finished, textures-listed, palettes-listed}
 use Rattle.nitro.proofs.Answers.{blankTexture, blankPalette}
 
 -- six numbers that were written one behind the other

@@ -14,8 +14,8 @@ use Rattle.errors.specs.declared.Kind.the-variants as kind
 use Rattle.errors.specs.declared.Status.{Status}
 use Rattle.errors.specs.declared.Status.the-variants.{Done, Refused}
 use Rattle.info_block.specs.Script.{Answer, outcomeOf}
-use Rattle.nitro.specs.Tex.{Data, Texture, Palette, Contents, headerOf, dataAt, secondAt}
-use Rattle.nitro.specs.declared.tex.Header.{Header}
+use Rattle.reading.specs.Tex.{Data, Texture, Palette, Contents, headerOf, dataAt, secondAt}
+use Rattle.reading.specs.declared.Header.{Header}
 use Rattle.nitro.specs.declared.tex.Reading.{Reading}
 use Rattle.nitro.specs.declared.tex.Reading.the-variants as reading
 use Rattle.nitro.specs.declared.tex.TextureRecord.{TextureRecord}

@@ -1,4 +1,3 @@
+pub mod ByLayout
 pub mod Calls
-pub mod Layouts
 pub mod Rows
-pub mod Tex

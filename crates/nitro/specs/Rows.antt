@@ -12,8 +12,8 @@ use Rattle.errors.specs.declared.Kind.{Kind}
 use Rattle.errors.specs.declared.Kind.the-variants as kind
 use Rattle.info_block.specs.Script.{Answer, outcomeOf}
 use Rattle.info_block.specs.InfoBlock.{nameAt}
-use Rattle.nitro.specs.Tex.{Texture, Palette, Contents, headerOf, dataAt, secondAt}
-use Rattle.nitro.specs.declared.tex.Header.{Header}
+use Rattle.reading.specs.Tex.{Texture, Palette, Contents, headerOf, dataAt, secondAt}
+use Rattle.reading.specs.declared.Header.{Header}
 use Rattle.nitro.specs.declared.tex.Place.{Place}
 
 -- A part by where it begins in the block, and its length. 01, "Modules" 5: "the part of the lent block it occupies". A part without bytes begins

@@ -1,62 +1,40 @@
-// TEX0 blocks: the reading, and what it found, as records and as parts of the block.
+// TEX0 blocks: what a reading found, as records and as parts of the block.
 //
-// A reading keeps nothing but positions and counts. Each call reads the block, and then picks what it was asked for.
+// Each call reads the block, and then picks what it was asked for.
 use errors::Counted;
 use errors::Kind;
 use errors::Refusal;
 use errors::Status;
 use info_block::entry_name;
-use info_block::take;
 use name::Name;
 use nds::texture_formats::Alpha;
 use nds::texture_params::TextureParams;
 use nds::wrap::Wrap;
+use reading::Header;
+use reading::Laid;
+use reading::Layout;
+use reading::data1_pos;
+use reading::data2_pos;
+use reading::lay_out;
+use reading::pal_block_len;
+use reading::params_at;
 use util::cur::part_at;
 use util::view::view_u16;
-use util::view::view_u32;
 ghost use mathlib.Core.Path.{_≡_};
 ghost use mathlib.Core.Bool.{true};
-ghost use Prim.Native.Nat.{_+_, _*_, _<_, _≤_, _^_};
-ghost use lib.ListN.{length, take as firstBytes};
+ghost use Prim.Native.Nat.{_+_, _*_, _<_, _≤_};
+ghost use lib.ListN.{length};
 ghost use lib.Seq.{sets};
-ghost use Rattle.util.specs.Outcome.{result};
 ghost use Rattle.errors.specs.Output.{Writes, pieces};
-ghost use Rattle.errors.specs.Refusal.{statusOutcome, countedOutcome};
+ghost use Rattle.errors.specs.Refusal.{countedOutcome};
 ghost use Rattle.errors.specs.declared.Kind.the-variants as kinds;
-ghost use Rattle.info_block.specs.Script.{run, outcomeOf, passing};
+ghost use Rattle.info_block.specs.Script.{run};
 ghost use Rattle.info_block.specs.InfoBlock.{listAt, listLength, entryNumber};
-ghost use Rattle.nitro.specs.Tex as Tex;
+ghost use Rattle.reading.specs.Tex as Tex;
+ghost use Rattle.reading.specs.Layouts.{laidOutcome};
 ghost use Rattle.nitro.specs.Calls as Calls;
-ghost use Rattle.nitro.specs.Layouts as Layouts;
+ghost use Rattle.nitro.specs.ByLayout as ByLayout;
 ghost use Rattle.nitro.specs.Rows as Rows;
-
-struct Header {
-    texture_off: u16,
-    tex_block_off: u32,
-    compressed1_block_off: u32,
-    compressed2_block_off: u32,
-    // The palette block's length in units of 8 bytes.
-    pal_block_len_shr_3: u16,
-    palette_off: u32,
-    pal_block_off: u32,
-}
-
-// Where a block's lists and data are, and how long the lists are.
-struct Layout {
-    header: Header,
-    textures: usize,
-    palettes: usize,
-}
-
-enum Headed {
-    Found(Header),
-    Refused(Refusal),
-}
-
-enum Laid {
-    Found(Layout),
-    Refused(Refusal),
-}
 
 pub enum Reading {
     // How many textures and palettes the block has.
@@ -127,63 +105,6 @@ pub enum Placed {
     Refused(Refusal),
 }
 
-// Whether the block begins with TEX0.
-fn has_stamp(block: &[u8]) -> bool
-    requires { ⌜ 60 ≤ length (now block) ⌝ }
-    ensures { λ r. ⌜ r ≡ Tex.hasStamp (firstBytes 60 (now (block .entry))) ⌝ }
-{
-    if block[0] != b'T' {
-        return false;
-    }
-    if block[1] != b'E' {
-        return false;
-    }
-    if block[2] != b'X' {
-        return false;
-    }
-    block[3] == b'0'
-}
-
-// The header's fields.
-fn header_of(block: &[u8]) -> Header
-    requires { ⌜ 60 ≤ length (now block) ⌝ }
-    ensures { λ r. ⌜ r ≡ Tex.headerOf (firstBytes 60 (now (block .entry))) ⌝ }
-{
-    Header {
-        texture_off: view_u16(block, 14),
-        tex_block_off: view_u32(block, 20),
-        compressed1_block_off: view_u32(block, 36),
-        compressed2_block_off: view_u32(block, 40),
-        pal_block_len_shr_3: view_u16(block, 48),
-        palette_off: view_u32(block, 52),
-        pal_block_off: view_u32(block, 56),
-    }
-}
-
-// Reads the header, and then checks its stamp.
-fn read_header(block: &[u8]) -> Headed
-    ensures { λ r. ⌜ Layouts.headedOutcome r ≡ outcomeOf (run Tex.readHeader (now (block .entry))) result ⌝ }
-{
-    match take(block, 0, 60) {
-        Status::Refused(refusal) => Headed::Refused(refusal),
-        Status::Done => {
-            if has_stamp(block) {
-                Headed::Found(header_of(block))
-            } else {
-                Headed::Refused(Refusal::Stamp)
-            }
-        }
-    }
-}
-
-// The palette block's length in bytes.
-fn pal_block_len(header: Header) -> usize
-    ensures { λ r. ⌜ r ≡ 8 * header .«pal_block_len_shr_3» ⌝ }
-    ensures { λ r. ⌜ r < 2 ^ 19 ⌝ }
-{
-    8 * (header.pal_block_len_shr_3 as usize)
-}
-
 // The palette block's place.
 fn pal_place_at(header: Header) -> Place
     ensures { λ r. ⌜ r ≡ Calls.palPlaceAt header ⌝ }
@@ -194,64 +115,6 @@ fn pal_place_at(header: Header) -> Place
     }
 }
 
-// Whether the palette block is there.
-fn take_pal_block(block: &[u8], header: Header) -> Status
-    ensures { λ r. ⌜ statusOutcome r ≡ passing (Tex.readPalBlock header) (now (block .entry)) ⌝ }
-{
-    take(block, header.pal_block_off as usize, pal_block_len(header))
-}
-
-// Where a texture's data, or a block-compressed texture's first data, begins.
-fn data1_pos(header: Header, params: TextureParams) -> usize
-    ensures { λ r. ⌜ (r ≡ Tex.dataAt header (params .0)) × (r < 2 ^ 33) ⌝ }
-{
-    let format = params.format();
-    let offset = params.offset() as usize;
-    if format.0 == 5 {
-        header.compressed1_block_off as usize + offset
-    } else {
-        header.tex_block_off as usize + offset
-    }
-}
-
-// Where a block-compressed texture's second data begins.
-fn data2_pos(header: Header, params: TextureParams) -> usize
-    ensures { λ r. ⌜ (r ≡ Tex.secondAt header (params .0)) × (r < 2 ^ 33) ⌝ }
-{
-    let offset = params.offset() as usize;
-    header.compressed2_block_off as usize + offset / 2
-}
-
-// Whether the second data is there, for a texture that has any.
-fn take_data2(block: &[u8], header: Header, params: TextureParams) -> Status
-    ensures { λ r. ⌜ statusOutcome r ≡ passing (Tex.readSecond header (params .0)) (now (block .entry)) ⌝ }
-{
-    let format = params.format();
-    if format.0 == 5 {
-        take(block, data2_pos(header, params), params.byte_len2())
-    } else {
-        Status::Done
-    }
-}
-
-// Whether a texture's data are there, the first and then the second. A texture of format 0 has 0 bytes, and a position all the same.
-fn take_data(block: &[u8], header: Header, params: TextureParams) -> Status
-    ensures { λ r. ⌜ statusOutcome r ≡ passing (Tex.readData header (params .0)) (now (block .entry)) ⌝ }
-{
-    match take(block, data1_pos(header, params), params.byte_len()) {
-        Status::Refused(refusal) => Status::Refused(refusal),
-        Status::Done => take_data2(block, header, params),
-    }
-}
-
-// The word of texture n.
-fn params_at(block: &[u8], pos: usize, count: usize, n: usize) -> TextureParams
-    requires { ⌜ (pos + listLength kinds.Texture count ≤ length (now block)) × (n < count) ⌝ }
-    ensures { λ r. ⌜ r .0 ≡ entryNumber kinds.Texture 4 (listAt kinds.Texture pos count (now (block .entry))) n ⌝ }
-{
-    TextureParams(view_u32(block, pos + (16 + 4 * count + 8 * n)))
-}
-
 // The offset of palette n, in bytes.
 fn off_at(block: &[u8], pos: usize, count: usize, n: usize) -> u32
     requires { ⌜ (pos + listLength kinds.Palette count ≤ length (now block)) × (n < count) ⌝ }
@@ -260,68 +123,9 @@ fn off_at(block: &[u8], pos: usize, count: usize, n: usize) -> u32
     8 * (view_u16(block, pos + (16 + 4 * count + 4 * n)) as u32)
 }
 
-// Whether the data of all textures are there, in list order.
-fn take_all_data(block: &[u8], header: Header, count: usize) -> Counted
-    requires { ⌜ header .«texture_off» + listLength kinds.Texture count ≤ length (now block) ⌝ }
-    ensures { λ r. ⌜ countedOutcome r ≡ Layouts.counting (Layouts.textureRow header count (now (block .entry))) (now (block .entry)) ⌝ }
-{
-    let pos = header.texture_off as usize;
-    let mut i = 0;
-    while i < count {
-        let params = params_at(block, pos, count, i);
-        if let Status::Refused(refusal) = take_data(block, header, params) {
-            return Counted::Refused(refusal);
-        }
-        i += 1;
-    }
-    Counted::Count(count)
-}
-
-// Reads the texture list, and then each texture's data.
-fn read_textures(block: &[u8], header: Header) -> Counted
-    ensures { λ r. ⌜ countedOutcome r ≡ Layouts.counting (Tex.readTextures header) (now (block .entry)) ⌝ }
-{
-    match info_block::read(block, Kind::Texture, header.texture_off as u32) {
-        Counted::Refused(refusal) => Counted::Refused(refusal),
-        Counted::Count(count) => take_all_data(block, header, count),
-    }
-}
-
-// Reads the palette list.
-fn read_palettes(block: &[u8], header: Header) -> Counted
-    ensures { λ r. ⌜ countedOutcome r ≡ Layouts.counting (Tex.readPalettes header) (now (block .entry)) ⌝ }
-{
-    info_block::read(block, Kind::Palette, header.palette_off)
-}
-
-// Reads the block: header, palette block, textures, palettes.
-fn lay_out(block: &[u8]) -> Laid
-    ensures { λ r. ⌜ Layouts.laidOutcome r ≡ Layouts.layoutAnswer (now (block .entry)) (run Tex.readTex (now (block .entry))) ⌝ }
-{
-    let header = match read_header(block) {
-        Headed::Found(header) => header,
-        Headed::Refused(refusal) => return Laid::Refused(refusal),
-    };
-    if let Status::Refused(refusal) = take_pal_block(block, header) {
-        return Laid::Refused(refusal);
-    }
-    let textures = match read_textures(block, header) {
-        Counted::Count(textures) => textures,
-        Counted::Refused(refusal) => return Laid::Refused(refusal),
-    };
-    match read_palettes(block, header) {
-        Counted::Count(palettes) => Laid::Found(Layout {
-            header,
-            textures,
-            palettes,
-        }),
-        Counted::Refused(refusal) => Laid::Refused(refusal),
-    }
-}
-
 // The length of the list of the kind.
 fn count_of(kind: Kind, layout: Layout) -> usize
-    ensures { λ r. ⌜ r ≡ Layouts.countOf kind layout ⌝ }
+    ensures { λ r. ⌜ r ≡ ByLayout.countOf kind layout ⌝ }
 {
     match kind {
         Kind::Texture => layout.textures,
@@ -331,7 +135,7 @@ fn count_of(kind: Kind, layout: Layout) -> usize
 
 // The layout of a block whose list of the kind has an entry n.
 fn find(block: &[u8], kind: Kind, n: usize) -> Laid
-    ensures { λ r. ⌜ Layouts.laidOutcome r ≡ Layouts.layoutWith kind n (now (block .entry)) (run Tex.readTex (now (block .entry))) ⌝ }
+    ensures { λ r. ⌜ laidOutcome r ≡ ByLayout.layoutWith kind n (now (block .entry)) (run Tex.readTex (now (block .entry))) ⌝ }
 {
     match lay_out(block) {
         Laid::Refused(refusal) => Laid::Refused(refusal),
@@ -470,7 +274,7 @@ pub fn pal_block(block: &[u8]) -> &[u8]
 
 // Whether the layout's block has the palette that is chosen.
 fn has_choice(layout: Layout, choice: PaletteChoice) -> bool
-    ensures { λ r. ⌜ r ≡ Layouts.hasChoice layout choice ⌝ }
+    ensures { λ r. ⌜ r ≡ ByLayout.hasChoice layout choice ⌝ }
 {
     match choice {
         PaletteChoice::None => true,
@@ -480,8 +284,8 @@ fn has_choice(layout: Layout, choice: PaletteChoice) -> bool
 
 // The offset of the palette that is chosen.
 fn chosen_off(block: &[u8], layout: Layout, choice: PaletteChoice) -> PaletteOff
-    requires { ⌜ (layout .header .«palette_off» + listLength kinds.Palette (layout .palettes) ≤ length (now block)) × (Layouts.hasChoice layout choice ≡ true) ⌝ }
-    ensures { λ r. ⌜ r ≡ Layouts.chosenAt (now (block .entry)) layout choice ⌝ }
+    requires { ⌜ (layout .header .«palette_off» + listLength kinds.Palette (layout .palettes) ≤ length (now block)) × (ByLayout.hasChoice layout choice ≡ true) ⌝ }
+    ensures { λ r. ⌜ r ≡ ByLayout.chosenAt (now (block .entry)) layout choice ⌝ }
 {
     match choice {
         PaletteChoice::None => PaletteOff::None,
@@ -495,7 +299,7 @@ fn chosen_off(block: &[u8], layout: Layout, choice: PaletteChoice) -> PaletteOff
 // The places of a picture's texture, beside the palette's offset.
 fn places_of(block: &[u8], layout: Layout, n: usize, palette: PaletteOff) -> Places
     requires { ⌜ (layout .header .«texture_off» + listLength kinds.Texture (layout .textures) ≤ length (now block)) × (n < layout .textures) ⌝ }
-    ensures { λ r. ⌜ r ≡ Layouts.placesBy (now (block .entry)) layout n palette ⌝ }
+    ensures { λ r. ⌜ r ≡ ByLayout.placesBy (now (block .entry)) layout n palette ⌝ }
 {
     let header = layout.header;
     let params = params_at(block, header.texture_off as usize, layout.textures, n);
@@ -533,7 +337,7 @@ pub fn locate(block: &[u8], n: usize, choice: PaletteChoice) -> Located
 
 // How many numbers the row of an entry has.
 fn row_len(kind: Kind) -> usize
-    ensures { λ r. ⌜ r ≡ Layouts.rowLength kind ⌝ }
+    ensures { λ r. ⌜ r ≡ ByLayout.rowLength kind ⌝ }
 {
     match kind {
         Kind::Texture => 6,
@@ -543,15 +347,15 @@ fn row_len(kind: Kind) -> usize
 
 // Where a part is told to begin: one without bytes at 0.
 fn told_pos(place: Place) -> usize
-    ensures { λ r. ⌜ r ≡ Layouts.toldPos place ⌝ }
+    ensures { λ r. ⌜ r ≡ ByLayout.toldPos place ⌝ }
 {
     if place.len == 0 { 0 } else { place.pos }
 }
 
 // Puts the row of texture n: where its name begins, its word, and the places of its data.
 fn put_texture_row(rows: &mut [usize], at: usize, block: &[u8], layout: Layout, n: usize)
-    requires { ⌜ (at + 6 ≤ length (now rows)) × ((Layouts.listEnd kinds.Texture layout ≤ length (now block)) × (n < layout .textures)) ⌝ }
-    ensures { λ _. ⌜ now (rows .exit) ≡ sets (now (rows .entry)) at (Layouts.rowBy kinds.Texture (now (block .entry)) layout n) ⌝ }
+    requires { ⌜ (at + 6 ≤ length (now rows)) × ((ByLayout.listEnd kinds.Texture layout ≤ length (now block)) × (n < layout .textures)) ⌝ }
+    ensures { λ _. ⌜ now (rows .exit) ≡ sets (now (rows .entry)) at (ByLayout.rowBy kinds.Texture (now (block .entry)) layout n) ⌝ }
 {
     let header = layout.header;
     let pos = header.texture_off as usize;
@@ -569,8 +373,8 @@ fn put_texture_row(rows: &mut [usize], at: usize, block: &[u8], layout: Layout, 
 
 // Puts the row of palette n: where its name begins, and its offset.
 fn put_palette_row(rows: &mut [usize], at: usize, block: &[u8], layout: Layout, n: usize)
-    requires { ⌜ (at + 2 ≤ length (now rows)) × ((Layouts.listEnd kinds.Palette layout ≤ length (now block)) × (n < layout .palettes)) ⌝ }
-    ensures { λ _. ⌜ now (rows .exit) ≡ sets (now (rows .entry)) at (Layouts.rowBy kinds.Palette (now (block .entry)) layout n) ⌝ }
+    requires { ⌜ (at + 2 ≤ length (now rows)) × ((ByLayout.listEnd kinds.Palette layout ≤ length (now block)) × (n < layout .palettes)) ⌝ }
+    ensures { λ _. ⌜ now (rows .exit) ≡ sets (now (rows .entry)) at (ByLayout.rowBy kinds.Palette (now (block .entry)) layout n) ⌝ }
 {
     let header = layout.header;
     let pos = header.palette_off as usize;
@@ -581,8 +385,8 @@ fn put_palette_row(rows: &mut [usize], at: usize, block: &[u8], layout: Layout, 
 
 // Puts the row of entry n.
 fn put_row(rows: &mut [usize], at: usize, block: &[u8], kind: Kind, layout: Layout, n: usize)
-    requires { ⌜ (at + Layouts.rowLength kind ≤ length (now rows)) × ((Layouts.listEnd kind layout ≤ length (now block)) × (n < Layouts.countOf kind layout)) ⌝ }
-    ensures { λ _. ⌜ now (rows .exit) ≡ sets (now (rows .entry)) at (Layouts.rowBy kind (now (block .entry)) layout n) ⌝ }
+    requires { ⌜ (at + ByLayout.rowLength kind ≤ length (now rows)) × ((ByLayout.listEnd kind layout ≤ length (now block)) × (n < ByLayout.countOf kind layout)) ⌝ }
+    ensures { λ _. ⌜ now (rows .exit) ≡ sets (now (rows .entry)) at (ByLayout.rowBy kind (now (block .entry)) layout n) ⌝ }
 {
     match kind {
         Kind::Texture => put_texture_row(rows, at, block, layout, n),
@@ -592,8 +396,8 @@ fn put_row(rows: &mut [usize], at: usize, block: &[u8], kind: Kind, layout: Layo
 
 // Puts the rows of all entries.
 fn put_rows(rows: &mut [usize], block: &[u8], kind: Kind, layout: Layout)
-    requires { ⌜ (Layouts.countOf kind layout * Layouts.rowLength kind ≤ length (now rows)) × (Layouts.listEnd kind layout ≤ length (now block)) ⌝ }
-    ensures { λ _. ⌜ now (rows .exit) ≡ sets (now (rows .entry)) 0 (pieces (Layouts.rowBy kind (now (block .entry)) layout) (Layouts.countOf kind layout)) ⌝ }
+    requires { ⌜ (ByLayout.countOf kind layout * ByLayout.rowLength kind ≤ length (now rows)) × (ByLayout.listEnd kind layout ≤ length (now block)) ⌝ }
+    ensures { λ _. ⌜ now (rows .exit) ≡ sets (now (rows .entry)) 0 (pieces (ByLayout.rowBy kind (now (block .entry)) layout) (ByLayout.countOf kind layout)) ⌝ }
 {
     let count = count_of(kind, layout);
     let len = row_len(kind);

@@ -9,7 +9,7 @@ use lib.ListN.{length, length-append}
 use Rattle.util.specs.Outcome.{Outcome, result, refusal, _>>=_}
 use Rattle.nds.proofs.Sizes.{width-le, height-le}
 use Rattle.info_block.specs.Script.{Answer}
-use Rattle.nitro.specs.Tex.{Contents}
+use Rattle.reading.specs.Tex.{Contents}
 use Rattle.nitro.specs.Calls.{Sources, sourcesOf}
 use Rattle.nitro.specs.declared.tex.PaletteChoice.{PaletteChoice}
 use Rattle.decode.specs.Pictures.{texelCount, pictureOf}

@@ -6,7 +6,7 @@ use Rattle.nds.specs.Params.{width, height}
 use Rattle.nitro.specs.declared.tex.PaletteChoice.the-variants as choices
 use Rattle.nitro.specs.Calls.{sourcesOf}
 use Rattle.info_block.specs.Script.{run, outcomeOf, bytesAt, _>>=_, _>>_}
-use Rattle.nitro.specs.Tex.{readHeader, readTex}
+use Rattle.reading.specs.Tex.{readHeader, readTex}
 use Rattle.util.specs.Outcome.{_>>=_ as _andThen_}
 use Rattle.text.specs.Text.{ascii, decimalBelow, decimal, line}
 use Rattle.listing.specs.Listing.{refusedLine, printed}

@@ -9,12 +9,12 @@ use lib.Dec.{leb}
 use borrow.Author.Tests.{leb-true, leb-false}
 use Rattle.errors.specs.declared.Kind.{Kind}
 use Rattle.info_block.specs.Script.{Answer, short, fault, whole, run, outcomeOf}
-use Rattle.nitro.specs.Tex.{Contents, readTex}
+use Rattle.reading.specs.Tex.{Contents, readTex}
 use Rattle.nitro.specs.Calls.{entry, chosenOf, sourcesOf}
 use Rattle.nitro.specs.declared.tex.PaletteChoice.{PaletteChoice}
 use Rattle.nitro.specs.declared.tex.PaletteChoice.the-variants as choices
 use Rattle.nitro.proofs.Answers.{entry-out}
-use Rattle.nitro.proofs.Sizes.{textures-few, palettes-few}
+use Rattle.reading.proofs.Sizes.{textures-few, palettes-few}
 use Rattle.decode.specs.Pictures.{pictureOf}
 use Rattle.pam.specs.Arguments.{capped}
 use Rattle.pam.specs.Pam.{pamOf, shownOutcome}

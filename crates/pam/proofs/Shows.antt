@@ -13,7 +13,7 @@ use Rattle.errors.specs.declared.Refusal.{Refusal}
 use Rattle.errors.proofs.Refusals.{refusal-not, refusal-any}
 use Rattle.errors.proofs.Outputs.{wrote-counts, writes-whole}
 use Rattle.info_block.specs.Script.{run}
-use Rattle.nitro.specs.Tex.{readTex}
+use Rattle.reading.specs.Tex.{readTex}
 use Rattle.nitro.specs.declared.tex.PaletteChoice.{PaletteChoice}
 use Rattle.text.specs.Put.{Room, Put}
 use Rattle.text.proofs.Puts.{put-writes}

@@ -7,7 +7,7 @@ use lib.Dec.{ltb}
 use Rattle.util.specs.Outcome.{Outcome, result, refusal, _>>=_}
 use Rattle.nds.specs.Params.{width, height}
 use Rattle.info_block.specs.Script.{Answer, run}
-use Rattle.nitro.specs.Tex.{Contents, readTex}
+use Rattle.reading.specs.Tex.{Contents, readTex}
 use Rattle.nitro.specs.Calls.{sourcesOf}
 use Rattle.nitro.specs.declared.tex.PaletteChoice.{PaletteChoice}
 use Rattle.decode.specs.Pictures.{pictureOf}

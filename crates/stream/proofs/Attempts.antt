@@ -8,7 +8,7 @@ use lib.ListN.{length, take}
 use lib.Dec.{leb}
 use borrow.Author.Tests.{leb-true, leb-false}
 use Rattle.util.specs.Outcome.{Outcome, refusal}
-use Rattle.nitro.specs.Tex.{readTex}
+use Rattle.reading.specs.Tex.{readTex}
 use Rattle.nitro.specs.declared.tex.PaletteChoice.{PaletteChoice}
 use Rattle.stream.specs.Fetch.{shortness, Call, Stops, Attempts, shortOnes, Fetched, readingCall, pictureCall}
 use Rattle.stream.specs.declared.shortness.Shortness.{Shortness}

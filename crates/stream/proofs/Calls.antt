@@ -17,7 +17,9 @@ use Rattle.errors.specs.declared.Kind.{Kind}
 use Rattle.errors.specs.declared.Kind.the-variants as kinds
 use Rattle.info_block.specs.Script.{Script, Answer, short, fault, whole, run, outcomeOf}
 use Rattle.info_block.specs.InfoBlock.{nameList, listCount}
-use Rattle.nitro.specs.Tex.{Palette, Contents, headerOf, readTex}
+use Rattle.reading.specs.Tex.{Palette, Contents, headerOf, readTex}
+use Rattle.reading.specs.Layouts.{layoutAnswer}
+use Rattle.reading.specs.declared.Layout.{Layout}
 use Rattle.nitro.specs.Calls as Calls
 use Rattle.nitro.specs.Rows.{rowsIn, rowsOf}
 use Rattle.nitro.specs.declared.tex.PaletteChoice.{PaletteChoice}
@@ -26,7 +28,7 @@ use Rattle.nitro.specs.declared.tex.PaletteOff.{PaletteOff}
 use Rattle.nitro.specs.declared.tex.Place.{Place}
 use Rattle.nitro.specs.declared.tex.Places.{Places}
 use Rattle.info_block.proofs.Runs.{bytes-out}
-use Rattle.nitro.proofs.Readings.{header-follows, read-header-follows}
+use Rattle.reading.proofs.Readings.{header-follows, read-header-follows}
 use Rattle.decode.specs.Pictures.{ready, decoded, pictureOf, lacksPalette, lacksData}
 use Rattle.stream.specs.Prefix.{nothing}
 
@@ -189,6 +191,20 @@ by-header f at-short b m h e = go (leb 60 m) refl
     go false q =
         let r = ends-early (take m b) (rw (length-take-le m b h) (leb-false 60 m q)) in
         at-short (take 60 (take m b)) _ 60 r ∙ sym (at-short (take 60 b) _ 60 (sym e ∙ r))
+
+pub lay-out-scripted : Scripted readTex (λ b. layoutAnswer b (run readTex b)) nothing tt
+unfolding layoutAnswer outcomeOf
+lay-out-scripted = record {
+  same =
+      λ b m h e. (
+        by-header
+            (λ header a. outcomeOf a λ c. result (record { header = headerOf header; textures = length (c .textures); palettes = length (c .palettes) }))
+            (λ header a w q. rw q) b m h e,
+        refl,
+      );
+  at-short = λ b w e. (rw e, refl);
+  only-short = λ b w e. outcome-short (run readTex b) _ (λ _. result-not {A = Layout}) w e;
+}
 
 pub pal-place-scripted : Scripted readTex (λ b. Calls.palPlaceOf b (run readTex b)) nothing tt
 unfolding Calls.palPlaceOf outcomeOf

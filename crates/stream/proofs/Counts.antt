@@ -17,11 +17,11 @@ use Rattle.errors.specs.declared.Kind.{Kind}
 use Rattle.errors.specs.declared.Kind.the-variants as kinds
 use Rattle.info_block.specs.Script.{Script, done, refuse, get, whole, run, ends, records, bytesAt, expect, eachFrom, _>>=_, _>>_}
 use Rattle.info_block.specs.InfoBlock.{NameList, wholeList, nameList}
-use Rattle.nitro.specs.Tex.{hasStamp, headerOf, dataAt, secondAt, paletteAt, readHeader, readPalBlock, readSecond, readData, readTexture}
-use Rattle.nitro.specs.Tex.{readTextures, readPalettes, readTex}
+use Rattle.reading.specs.Tex.{hasStamp, headerOf, dataAt, secondAt, paletteAt, readHeader, readPalBlock, readSecond, readData, readTexture}
+use Rattle.reading.specs.Tex.{readTextures, readPalettes, readTex}
 use Rattle.info_block.proofs.Runs.{both, bytes-whole}
 use Rattle.info_block.proofs.Lists.{listed}
-use Rattle.nitro.proofs.Readings.{header-there, header-whole}
+use Rattle.reading.proofs.Readings.{header-there, header-whole}
 use Rattle.stream.specs.Fetch.{shortAnswers, textureCount}
 
 -- no more are larger than all before than there are

@@ -10,7 +10,7 @@ use Rattle.nds.specs.Params.{width, height, format, offset}
 use Rattle.nds.specs.Formats.{dataLength}
 use Rattle.name.specs.Name.{trimmed, safeText}
 use Rattle.info_block.specs.Script.{run, ends, records, outcomeOf, bytesAt, expect, eachFrom, _>>=_, _>>_}
-use Rattle.nitro.specs.Tex.{headerOf, dataAt, readHeader, readPalBlock, readSecond, readData, readTexture, readTextures, readPalettes, readTex}
+use Rattle.reading.specs.Tex.{headerOf, dataAt, readHeader, readPalBlock, readSecond, readData, readTexture, readTextures, readPalettes, readTex}
 use Rattle.info_block.specs.InfoBlock.{wholeList, nameList}
 use Rattle.nitro.specs.Calls.{readingOf}
 use Rattle.nitro.proofs.Sample.{leaf, sample}

@@ -10,7 +10,7 @@ use borrow.Author.Tests.{eqb-true}
 use Rattle.util.specs.Outcome.{Outcome, result, refusal}
 use Rattle.errors.proofs.Outputs.{refused-keeps}
 use Rattle.info_block.specs.Script.{short, ends, records}
-use Rattle.nitro.specs.Tex.{readTex}
+use Rattle.reading.specs.Tex.{readTex}
 use Rattle.nitro.specs.declared.tex.PaletteChoice.{PaletteChoice}
 use Rattle.info_block.proofs.Early.{early-settled, early-waits}
 use Rattle.stream.specs.Fetch.{shortness, Call, shortAnswers, Fetched, pictureCall}

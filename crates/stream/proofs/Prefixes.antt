@@ -8,7 +8,7 @@ use Rattle.info_block.specs.Script.{Script}
 use Rattle.info_block.proofs.Early.{early-settled, early-waits}
 use Rattle.info_block.proofs.Runs.{run-short}
 use Rattle.stream.specs.Prefix.{Prefix, PrefixLaws}
-use Rattle.stream.proofs.Calls.{Scripted, list-scripted, reading-scripted, texture-scripted, palette-scripted, data1-scripted}
+use Rattle.stream.proofs.Calls.{Scripted, list-scripted, lay-out-scripted, reading-scripted, texture-scripted, palette-scripted, data1-scripted}
 use Rattle.stream.proofs.Calls.{data2-scripted, pal-block-scripted, pal-place-scripted, locate-scripted, rows-scripted, picture-scripted}
 
 -- from the law on scripts, for every call that goes by what a script comes to
@@ -34,6 +34,7 @@ module _ {A B C : Type 0} (s : Script A) {answer : List ℕ → Outcome B} {besi
 pub prefix-laws : PrefixLaws
 prefix-laws = record {
   read = λ kind pos. prefix-law _ (list-scripted kind pos);
+  lay-out = prefix-law _ lay-out-scripted;
   read-tex = prefix-law _ reading-scripted;
   texture = λ i. prefix-law _ (texture-scripted i);
   palette = λ i. prefix-law _ (palette-scripted i);

@@ -9,7 +9,7 @@ use Rattle.util.specs.Number.{numberAt}
 use Rattle.util.specs.Outcome.{Outcome, result, refusal}
 use Rattle.errors.specs.Output.{writeOutcome, writeOutput}
 use Rattle.info_block.specs.Script.{run, ends, records}
-use Rattle.nitro.specs.Tex.{hasStamp, headerOf, readTex}
+use Rattle.reading.specs.Tex.{hasStamp, headerOf, readTex}
 use Rattle.nitro.specs.Calls.{Counts, readingOf}
 use Rattle.nitro.specs.declared.tex.PaletteChoice.{PaletteChoice}
 use Rattle.decode.specs.Pictures.{pictureOf}

@@ -10,8 +10,9 @@ use Rattle.util.specs.Outcome.{Outcome, refusal}
 use Rattle.errors.specs.Output.{writeOutcome, writeOutput}
 use Rattle.errors.specs.declared.Kind.{Kind}
 use Rattle.info_block.specs.Script.{run}
-use Rattle.nitro.specs.Tex.{readTex}
+use Rattle.reading.specs.Tex.{readTex}
 use Rattle.info_block.specs.InfoBlock.{nameList, listCount}
+use Rattle.reading.specs.Layouts.{layoutAnswer}
 use Rattle.nitro.specs.Calls as Calls
 use Rattle.nitro.specs.Rows.{rowsOf}
 use Rattle.nitro.specs.declared.tex.PaletteChoice.{PaletteChoice}
@@ -38,8 +39,10 @@ nothing block = tt
 
 -- ".. every number, choice and output": for each call, by its name in the code, what its contract says that it answers and leaves.
 pub record PrefixLaws : Type 0 where
-  -- `nitro::info_block::read`: the count of a list.
+  -- `info_block::read`: the count of a list.
   pub read : (kind : Kind) (pos : ℕ) → Prefix (listCount (nameList kind pos)) nothing tt
+  -- `reading::lay_out`: a block's layout.
+  pub lay-out : Prefix (λ b. layoutAnswer b (run readTex b)) nothing tt
   -- `nitro::tex::read_tex`: a reading's counts.
   pub read-tex : Prefix (λ b. Calls.readingOf (run readTex b)) nothing tt
   -- `nitro::tex::texture` and `nitro::tex::palette`: a record, which is blank beside a refusal.

@@ -9,7 +9,7 @@ ghost use lib.ListN.{length, take};
 ghost use Rattle.errors.specs.Refusal.{countedOutcome};
 ghost use Rattle.errors.specs.Output.{Writes};
 ghost use Rattle.info_block.specs.Script.{run};
-ghost use Rattle.nitro.specs.Tex as Tex;
+ghost use Rattle.reading.specs.Tex as Tex;
 ghost use Rattle.decode.specs.Pictures as Pictures;
 ghost use Rattle.stream.specs.Fetch.{Fetched, pictureCall};
 

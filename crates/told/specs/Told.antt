@@ -12,7 +12,7 @@ use Rattle.nds.specs.declared.wrap.Wrap.{Wrap}
 use Rattle.nds.specs.declared.wrap.Wrap.the-variants as wrap
 use Rattle.errors.specs.declared.Kind.{Kind}
 use Rattle.info_block.specs.Script.{run}
-use Rattle.nitro.specs.Tex.{readTex}
+use Rattle.reading.specs.Tex.{readTex}
 use Rattle.nitro.specs.Rows.{placeOf, rowsOf}
 use Rattle.nitro.specs.Calls.{Counts, readingOf, textureOf, paletteOf, data1Of, data2Of, palBlockOf, placesOf, palPlaceOf}
 use Rattle.nitro.specs.declared.tex.TextureRecord.{TextureRecord}

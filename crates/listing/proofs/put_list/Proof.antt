@@ -5,7 +5,7 @@ use native.Mathlib.Omega.{arith}
 use denote.Ref.{now}
 use Rattle.info_block.specs.Script.{run}
 use Rattle.errors.specs.Output.{pieces}
-use Rattle.nitro.specs.Tex.{readTex}
+use Rattle.reading.specs.Tex.{readTex}
 use Rattle.text.specs.Put.{Room, Put}
 use Rattle.listing.specs.Lists.{entryLine, listOf}
 use Rattle.text.proofs.Puts.{put-none, put-then, put-length, room-first, room-then}

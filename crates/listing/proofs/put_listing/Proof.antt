@@ -9,7 +9,7 @@ use borrow.Author.Needs.{needs}
 use Rattle.errors.specs.Refusal.{refusalNumber, refusalReturned}
 use Rattle.errors.specs.declared.Kind.the-variants.{Texture, Palette}
 use Rattle.info_block.specs.Script.{run}
-use Rattle.nitro.specs.Tex.{readTex}
+use Rattle.reading.specs.Tex.{readTex}
 use Rattle.listing.specs.Listing.{listingText, refusedLine}
 use Rattle.listing.specs.Lists.{listOf}
 use Rattle.text.proofs.Puts.{put-then, room-first, room-then}

@@ -11,7 +11,7 @@ use Rattle.util.specs.Outcome.{Outcome, result}
 use Rattle.errors.specs.Output.{Writes}
 use Rattle.errors.proofs.Outputs.{writes-refusal}
 use Rattle.info_block.specs.Script.{Answer, run}
-use Rattle.nitro.specs.Tex.{Contents, readTex}
+use Rattle.reading.specs.Tex.{Contents, readTex}
 use Rattle.nitro.specs.Calls.{sourcesOf, sourcesAt, locatedOutcome}
 use Rattle.nitro.proofs.Answers.{located-sources, located-refused}
 use Rattle.decode.specs.Pictures.{pictureOf}

@@ -13,7 +13,7 @@ use Rattle.errors.specs.Output.{Writes}
 use Rattle.errors.specs.declared.Counted.{Counted}
 use Rattle.errors.proofs.Outputs.{refused-keeps}
 use Rattle.info_block.specs.Script.{run}
-use Rattle.nitro.specs.Tex.{readTex}
+use Rattle.reading.specs.Tex.{readTex}
 use Rattle.pam.specs.Pam.{pamOf, shownOutcome}
 use Rattle.pam.proofs.Bounds.{refused-room, pam-fits}
 use Rattle.pam.proofs.Shows.{too-long, not-too-long, shows-refusal, shows-image, made-refusal}

@@ -1,6 +1,7 @@
 -- `nitro::tex::find` meets its contract: the entry is there exactly if its number is below the count. Assumes nothing.
 use borrow.Author.Needs.{needs}
-use Rattle.nitro.specs.Layouts.{layoutAnswer, layoutWith}
+use Rattle.reading.specs.Layouts.{layoutAnswer}
+use Rattle.nitro.specs.ByLayout.{layoutWith}
 use Rattle.nitro.proofs.Answers.{with-entry, without-entry}
 use Rattle.info_block.proofs.Runs.{ended, follows-self, refused}
 use Rattle.nitro.proofs.tex.find.Statement.{statement}

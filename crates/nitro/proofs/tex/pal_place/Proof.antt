@@ -4,8 +4,8 @@ use denote.Ref.{now}
 use borrow.Author.Needs.{needs}
 use Rattle.util.specs.Outcome.{result}
 use Rattle.nitro.specs.Calls.{palPlaceOf, palPlaceAt}
-use Rattle.nitro.specs.Layouts.{layoutAnswer}
-use Rattle.nitro.specs.declared.tex.Layout.{Layout}
+use Rattle.reading.specs.Layouts.{layoutAnswer}
+use Rattle.reading.specs.declared.Layout.{Layout}
 use Rattle.info_block.proofs.Runs.{ended, whole-outcome, follows-self, refused}
 use Rattle.nitro.proofs.tex.pal_place.Statement.{statement}
 use Rattle.nitro.proofs.tex.pal_place.Tie as tie

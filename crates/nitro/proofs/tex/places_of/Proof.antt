@@ -1,6 +1,6 @@
 -- `nitro::tex::places_of` meets its contract: each part stands where its own function says. Assumes nothing.
 use borrow.Author.Needs.{needs}
-use Rattle.nitro.specs.Layouts.{placesBy}
+use Rattle.nitro.specs.ByLayout.{placesBy}
 use Rattle.nitro.proofs.tex.places_of.Statement.{statement}
 use Rattle.nitro.proofs.tex.places_of.Tie as tie
 

@@ -5,7 +5,7 @@ use native.Mathlib.Omega.{arith}
 use lib.Seq.{sets}
 use borrow.Author.Needs.{needs}
 use Rattle.errors.specs.Output.{pieces}
-use Rattle.nitro.specs.Layouts.{countOf, rowLength, rowBy}
+use Rattle.nitro.specs.ByLayout.{countOf, rowLength, rowBy}
 use Rattle.nitro.proofs.Rows.{row-behind, row-room, rows-same-length}
 use Rattle.nitro.proofs.tex.put_rows.Statement.{statement}
 use Rattle.nitro.proofs.tex.put_rows.Tie as tie

@@ -3,7 +3,7 @@ use mathlib.Core.Path.{_≡_}
 use native.Mathlib.Omega.{arith}
 use lib.ListN.{length-set}
 use denote.Ref.{now}
-use Rattle.nitro.specs.Layouts.{toldPos, rowBy}
+use Rattle.nitro.specs.ByLayout.{toldPos, rowBy}
 use Rattle.nitro.proofs.Rows.{six-put}
 use borrow.Author.Needs.{needs}
 use Rattle.nitro.proofs.tex.put_texture_row.Statement.{statement}

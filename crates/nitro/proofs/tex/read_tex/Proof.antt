@@ -2,7 +2,7 @@
 use denote.Ref.{now}
 use borrow.Author.Needs.{needs}
 use Rattle.nitro.specs.Calls.{readingOf}
-use Rattle.nitro.specs.Layouts.{layoutAnswer}
+use Rattle.reading.specs.Layouts.{layoutAnswer}
 use Rattle.nitro.proofs.Answers.{reading-laid}
 use Rattle.info_block.proofs.Runs.{ended, follows-self, refused}
 use Rattle.nitro.proofs.tex.read_tex.Statement.{statement}

@@ -8,7 +8,7 @@ use borrow.Author.Needs.{needs}
 use Rattle.errors.specs.Refusal.{countedOutcome}
 use Rattle.errors.specs.Output.{writeOutcome, writeOutput, Writes}
 use Rattle.info_block.specs.Script.{run}
-use Rattle.nitro.specs.Tex.{readTex}
+use Rattle.reading.specs.Tex.{readTex}
 use Rattle.decode.specs.Pictures.{pictureOf}
 use Rattle.stream.specs.Fetch.{pictureCall}
 use Rattle.stream.proofs.Calls.{picture-scripted}

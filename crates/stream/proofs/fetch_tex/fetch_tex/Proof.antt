@@ -7,7 +7,7 @@ use lib.Seq.{length-take-le}
 use denote.Ref.{now}
 use borrow.Author.Needs.{needs}
 use Rattle.info_block.specs.Script.{run}
-use Rattle.nitro.specs.Tex.{readTex}
+use Rattle.reading.specs.Tex.{readTex}
 use Rattle.nitro.specs.Calls.{readingOf, readingOutcome}
 use Rattle.stream.specs.Fetch.{readingCall}
 use Rattle.stream.specs.Prefix.{nothing}

@@ -1,0 +1,2 @@
+pub mod Layouts
+pub mod Tex
