@@ -21,7 +21,7 @@ use Rattle.errors.specs.declared.Refusal.{Refusal}
 use Rattle.errors.proofs.Outputs.{sets-append, writes-sets, writes-short, pieces-length, pieces-listed}
 use Rattle.info_block.specs.Script.{whole, run}
 use Rattle.info_block.specs.InfoBlock.{nameAt, listLength}
-use Rattle.reading.specs.Tex.{Texture, Palette, Contents, headerOf, dataAt, secondAt, readTex}
+use Rattle.reading.specs.Tex.{Texture, Palette, Contents, headerOf, readTex}
 use Rattle.reading.specs.Layouts.{layoutOf, layoutAnswer}
 use Rattle.nitro.specs.ByLayout.{countOf, placesBy, listEnd, rowLength, rowBy}
 use Rattle.nitro.specs.Rows.{placeOf, Inside, namePlace, data1Place, data2Place, textureRow, paletteRow, rowsIn, rowsOf}

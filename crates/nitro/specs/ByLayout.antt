@@ -2,7 +2,7 @@
 use Prim.Native.Nat.{ℕ, _+_, _*_}
 use mathlib.Core.Bool.{Bool, true, cond}
 use mathlib.Core.List.{List, [], _∷_}
-use lib.Dec.{ltb, eqb}
+use lib.Dec.{ltb}
 use Rattle.util.specs.Outcome.{Outcome, result, refusal}
 use Rattle.errors.specs.Refusal.{absentNumber}
 use Rattle.errors.specs.declared.Kind.{Kind}
@@ -12,12 +12,12 @@ use Rattle.info_block.specs.InfoBlock.{nameAt, listLength, listAt, entryNumber}
 use Rattle.reading.specs.Tex.{Contents}
 use Rattle.reading.specs.Layouts.{layoutOf}
 use Rattle.nitro.specs.Calls.{placesAt}
+use Rattle.nitro.specs.Rows.{toldPos}
 use Rattle.reading.specs.declared.Layout.{Layout}
 use Rattle.nitro.specs.declared.tex.PaletteChoice.{PaletteChoice}
 use Rattle.nitro.specs.declared.tex.PaletteChoice.the-variants as choices
 use Rattle.nitro.specs.declared.tex.PaletteOff.{PaletteOff}
 use Rattle.nitro.specs.declared.tex.PaletteOff.the-variants as offs
-use Rattle.nitro.specs.declared.tex.Place.{Place}
 use Rattle.nitro.specs.declared.tex.Places.{Places}
 
 -- The length of the list of kind k.
@@ -56,16 +56,13 @@ abbrev pub rowLength : Kind → ℕ
 rowLength kind.Texture = 6
 rowLength kind.Palette = 2
 
-abbrev pub toldPos : Place → ℕ
-toldPos place = cond (eqb (place .len) 0) 0 (place .pos)
-
 abbrev pub placesRow : (name : ℕ) → Places → List ℕ
 placesRow name places =
     name
     ∷ places .params .0
-    ∷ toldPos (places .data1)
+    ∷ toldPos (places .data1 .pos) (places .data1 .len)
     ∷ places .data1 .len
-    ∷ toldPos (places .data2)
+    ∷ toldPos (places .data2 .pos) (places .data2 .len)
     ∷ places .data2 .len
     ∷ []
 

@@ -347,7 +347,7 @@ fn row_len(kind: Kind) -> usize
 
 // Where a part is told to begin: one without bytes at 0.
 fn told_pos(place: Place) -> usize
-    ensures { λ r. ⌜ r ≡ ByLayout.toldPos place ⌝ }
+    ensures { λ r. ⌜ r ≡ Rows.toldPos (place .pos) (place .len) ⌝ }
 {
     if place.len == 0 { 0 } else { place.pos }
 }

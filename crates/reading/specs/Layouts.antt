@@ -20,8 +20,8 @@ abbrev pub counting : {A : Type 0} → Script (List A) → (block : List ℕ) �
 counting s block = outcomeOf (run s block) λ found. result (length found)
 
 -- The textures of a list of c entries that stands in the block.
-abbrev pub textureRow : Header → (c : ℕ) (block : List ℕ) → Script (List Texture)
-textureRow h c block = each c (readTexture h (listAt kind.Texture (h .«texture_off») c block))
+abbrev pub eachTexture : Header → (c : ℕ) (block : List ℕ) → Script (List Texture)
+eachTexture h c block = each c (readTexture h (listAt kind.Texture (h .«texture_off») c block))
 
 abbrev pub headedOutcome : Headed → Outcome Header
 headedOutcome (headed.Found h) = result h

@@ -166,7 +166,7 @@ pub fn params_at(block: &[u8], pos: usize, count: usize, n: usize) -> TexturePar
 // Whether the data of all textures are there, in list order.
 fn take_all_data(block: &[u8], header: Header, count: usize) -> Counted
     requires { ⌜ header .«texture_off» + listLength kinds.Texture count ≤ length (now block) ⌝ }
-    ensures { λ r. ⌜ countedOutcome r ≡ Layouts.counting (Layouts.textureRow header count (now (block .entry))) (now (block .entry)) ⌝ }
+    ensures { λ r. ⌜ countedOutcome r ≡ Layouts.counting (Layouts.eachTexture header count (now (block .entry))) (now (block .entry)) ⌝ }
 {
     let pos = header.texture_off as usize;
     let mut i = 0;

@@ -12,7 +12,7 @@ use Rattle.errors.specs.declared.Kind.the-variants as kinds
 use Rattle.info_block.specs.Script.{Script, run, outcomeOf, eachFrom}
 use Rattle.info_block.specs.InfoBlock.{listAt}
 use Rattle.reading.specs.Tex.{Texture, readTexture}
-use Rattle.reading.specs.Layouts.{counting, textureRow}
+use Rattle.reading.specs.Layouts.{counting, eachTexture}
 use Rattle.reading.specs.declared.Header.{Header}
 use Rattle.info_block.proofs.Runs.{ended, each-turn, each-none, each-count, each-follows, follows-trans, refused}
 use Rattle.reading.proofs.Readings.{texture-follows, texture-read}
@@ -28,7 +28,7 @@ module _ (block : List ℕ) (header : Header) (count : ℕ) where
   row i n = outcomeOf (run (eachFrom i n script) block) (λ _. result count)
 
 abbrev Inv-loop : tie.InvT-loop
-Inv-loop block header count pos i₀ i = (i ≤ count) × (row block header count i (count - i) ≡ counting (textureRow header count block) block)
+Inv-loop block header count pos i₀ i = (i ≤ count) × (row block header count i (count - i) ≡ counting (eachTexture header count block) block)
 
 abbrev μ-loop : tie.MeasureT-loop
 μ-loop block header count pos i₀ i = count - i
@@ -55,7 +55,7 @@ enum-known-refusal c = search needs
 unrolled : (c : tie.In-loop Inv-loop μ-loop)
     → let a = c .before .before .before .before .args in
     row (now (a .block)) (a .header) (a .count) (c .before .loop .i) (suc (a .count - (c .before .loop .i + 1)))
-    ≡ counting (textureRow (a .header) (a .count) (now (a .block))) (now (a .block))
+    ≡ counting (eachTexture (a .header) (a .count) (now (a .block))) (now (a .block))
 unrolled c =
     let a = c .before .before .before .before .args in
     let e : suc (a .count - (c .before .loop .i + 1)) ≡ a .count - c .before .loop .i = omega arith in
