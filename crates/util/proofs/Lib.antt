@@ -1,9 +1,5 @@
-pub mod AsksWith
-pub mod Cursor
 pub mod Fields
-pub mod NextNumber
 pub mod Numbers
 pub mod Parts
 pub mod Table
 pub mod Takes
-pub mod Walks

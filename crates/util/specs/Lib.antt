@@ -1,5 +1,4 @@
 pub mod Bits
-pub mod Cursor
 pub mod Number
 pub mod Outcome
 pub mod Take
