@@ -11,9 +11,9 @@ use Rattle.util.proofs.Numbers.{number-in-part}
 use Rattle.errors.specs.Refusal.{badDummy, badSize}
 use Rattle.errors.specs.declared.Kind.{Kind}
 use Rattle.errors.specs.declared.Kind.the-variants.{Texture, Palette}
-use Rattle.info_block.specs.Script.{fault, whole, run, outcomeOf, bytesAt}
+use Rattle.scripts.specs.Script.{fault, whole, run, outcomeOf, bytesAt}
 use Rattle.info_block.specs.InfoBlock.{NameList, datumBytes, sizeAt, listLength, listAt, wholeList, nameList}
-use Rattle.info_block.proofs.Runs.{onward, both, bytes-in, bytes-whole, expect-met, expect-failed, expected, ended, Follows, follows-bind}
+use Rattle.scripts.proofs.Runs.{onward, both, bytes-in, bytes-whole, expect-met, expect-failed, expected, ended, Follows, follows-bind}
 
 -- the data of a list of at most 255 entries are few
 pub data-small : (kind : Kind) (c : ℕ) {size : ℕ} → size ≡ datumBytes kind → c < 2 ^ 8 → size * c < 2 ^ 11

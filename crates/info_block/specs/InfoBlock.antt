@@ -8,7 +8,7 @@ use Rattle.util.specs.Outcome.{Outcome, result}
 use Rattle.errors.specs.Refusal.{badDummy, badSize}
 use Rattle.errors.specs.declared.Kind.{Kind}
 use Rattle.errors.specs.declared.Kind.the-variants.{Texture, Palette}
-use Rattle.info_block.specs.Script.{Script, run, outcomeOf, done, bytesAt, expect, _>>=_, _>>_}
+use Rattle.scripts.specs.Script.{Script, run, outcomeOf, done, bytesAt, expect, _>>=_, _>>_}
 
 -- 01, "Records": "A texture datum has 8 bytes, .. a palette datum has 4".
 abbrev pub datumBytes : Kind → ℕ

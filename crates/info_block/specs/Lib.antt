@@ -1,2 +1,1 @@
 pub mod InfoBlock
-pub mod Script

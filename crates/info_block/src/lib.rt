@@ -4,27 +4,14 @@ use errors::Kind;
 use errors::Refusal;
 use errors::Status;
 use name::Name;
-use util::cur::Taken;
-use util::cur::take_at;
+use scripts::take;
 use util::view::view_u8;
 use util::view::view_u16;
 ghost use mathlib.Core.Path.{_≡_};
 ghost use Prim.Native.Nat.{_+_, _<_, _≤_, _^_};
 ghost use lib.ListN.{length, take as firstBytes, drop};
-ghost use Rattle.errors.specs.Refusal.{statusOutcome, countedOutcome};
-ghost use Rattle.info_block.specs.Script.{bytesAt, passing};
+ghost use Rattle.errors.specs.Refusal.{countedOutcome};
 ghost use Rattle.info_block.specs.InfoBlock as InfoBlock;
-
-// Whether block holds n bytes at pos.
-pub fn take(block: &[u8], pos: usize, n: usize) -> Status
-    requires { ⌜ pos + n < 2 ^ 64 ⌝ }
-    ensures { λ r. ⌜ statusOutcome r ≡ passing (bytesAt pos n) (now (block .entry)) ⌝ }
-{
-    match take_at(block, pos, n) {
-        Taken::Whole(_) => Status::Done,
-        Taken::Short(needed) => Status::Refused(Refusal::Short(needed.low)),
-    }
-}
 
 // The size of an entry's datum.
 fn datum_size(kind: Kind) -> usize

@@ -7,7 +7,7 @@ ghost use Prim.Native.Nat.{_+_, _≤_};
 ghost use lib.ListN.{length, take};
 ghost use lib.Seq.{sets};
 ghost use Rattle.util.specs.Outcome.{result};
-ghost use Rattle.errors.specs.Output.{Writes};
+ghost use Rattle.output.specs.Output.{Writes};
 ghost use Rattle.errors.specs.Refusal.{countedOutcome};
 ghost use Rattle.name.specs.Name as Text;
 

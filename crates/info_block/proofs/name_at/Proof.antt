@@ -4,7 +4,7 @@ use mathlib.Core.Path.{_≡_, _∙_}
 use native.Mathlib.Omega.{arith}
 use lib.ListN.{length, take, drop, length-drop}
 use lib.Seq.{getD-drop}
-use Rattle.errors.proofs.Outputs.{Wrote, wrote-none, wrote-byte, wrote-all}
+use Rattle.output.proofs.Outputs.{Wrote, wrote-none, wrote-byte, wrote-all}
 use Rattle.name.proofs.Texts.{take-more}
 use Rattle.info_block.proofs.name_at.Statement.{statement}
 use Rattle.info_block.proofs.name_at.Tie as tie

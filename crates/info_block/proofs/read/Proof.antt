@@ -6,8 +6,8 @@ use lib.ListN.{length}
 use denote.Ref.{now}
 use borrow.Author.Needs.{needs}
 use Rattle.util.specs.Outcome.{result}
-use Rattle.info_block.specs.Script.{outcomeOf}
-use Rattle.info_block.proofs.Runs.{take-within, refused}
+use Rattle.scripts.specs.Script.{outcomeOf}
+use Rattle.scripts.proofs.Runs.{take-within, refused}
 use Rattle.info_block.proofs.Lists.{head-follows, counted}
 use Rattle.info_block.proofs.read.Statement.{statement}
 use Rattle.info_block.proofs.read.Tie as tie

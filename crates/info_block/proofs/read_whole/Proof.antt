@@ -6,7 +6,7 @@ use lib.ListN.{length}
 use denote.Ref.{now}
 use borrow.Author.Needs.{needs}
 use Rattle.info_block.specs.InfoBlock.{listLength}
-use Rattle.info_block.proofs.Runs.{take-within, whole-outcome, fault-outcome, refused}
+use Rattle.scripts.proofs.Runs.{take-within, whole-outcome, fault-outcome, refused}
 use Rattle.info_block.proofs.Lists.{data-small, list-follows, dummy-bad, size-bad, list-passes}
 use Rattle.info_block.proofs.read_whole.Statement.{statement}
 use Rattle.info_block.proofs.read_whole.Tie as tie

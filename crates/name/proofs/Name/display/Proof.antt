@@ -5,7 +5,7 @@ use mathlib.Core.List.{flatMap}
 use native.Mathlib.Omega.{arith}
 use lib.ListN.{length, take, getD}
 use borrow.Author.Needs.{needs}
-use Rattle.errors.proofs.Outputs.{Wrote, wrote-none, wrote-length, wrote-more, writes-fits, writes-short}
+use Rattle.output.proofs.Outputs.{Wrote, wrote-none, wrote-length, wrote-more, writes-fits, writes-short}
 use Rattle.name.specs.Name.{displayByte}
 use Rattle.name.proofs.Texts.{kept-within, display-kept, flat-more, flat-room}
 use Rattle.name.proofs.Name.display.Statement.{statement}

@@ -5,7 +5,7 @@ use mathlib.Core.List.{map}
 use native.Mathlib.Omega.{arith}
 use lib.ListN.{length, take}
 use borrow.Author.Needs.{needs}
-use Rattle.errors.proofs.Outputs.{Wrote, wrote-none, wrote-length, wrote-byte, writes-fits, writes-short}
+use Rattle.output.proofs.Outputs.{Wrote, wrote-none, wrote-length, wrote-byte, writes-fits, writes-short}
 use Rattle.name.specs.Name.{safeByte}
 use Rattle.name.proofs.Texts.{kept-within, safe-empty, safe-some, safe-length, map-more}
 use Rattle.name.proofs.Name.print_safe.Statement.{statement}

@@ -11,8 +11,8 @@ use lib.Seq.{length-take-le}
 use lib.Dec.{leb}
 use borrow.Author.Tests.{le-leb, lt-leb, leb-true, leb-false, lt-ltb, le-ltb}
 use Rattle.util.proofs.Parts.{part-of-prefix}
-use Rattle.info_block.specs.Script.{Script, done, refuse, get, short, run, ends, records}
-use Rattle.info_block.proofs.Runs.{run-in, run-out}
+use Rattle.scripts.specs.Script.{Script, done, refuse, get, short, run, ends, records}
+use Rattle.scripts.proofs.Runs.{run-in, run-out}
 
 -- A run on the first m bytes that is short of w: w is past m. The whole is short of w where it has fewer bytes than w, and w is the last
 -- to count; else w is counted, and what is left to count is past w.

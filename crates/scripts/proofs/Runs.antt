@@ -12,8 +12,7 @@ use Rattle.util.specs.Outcome.{Outcome, result, refusal}
 use Rattle.errors.specs.Refusal.{Fault, faultNumber, refusalOutcome}
 use Rattle.errors.specs.declared.Refusal.{Refusal}
 use Rattle.errors.proofs.Refusals.{refusal-not, refusal-any}
-use Rattle.info_block.specs.Script.{Script, done, refuse, get, Answer, short, fault, whole, run, outcomeOf, bytesAt, expect, eachFrom}
-use Rattle.info_block.specs.Script.{_>>=_, _>>_}
+use Rattle.scripts.specs.Script.{Script, done, refuse, get, Answer, short, fault, whole, run, outcomeOf, bytesAt, expect, eachFrom, _>>=_, _>>_}
 
 -- an answer, and then the next
 abbrev pub andThen : {A B : Type 0} → Answer A → (A → Answer B) → Answer B

@@ -10,15 +10,19 @@ use lib.Seq.{take-append-seam, drop-append-add, drop-drop, sets, sets-eq}
 use lib.Dec.{leb}
 use borrow.Author.Tests.{leb-true, leb-false, le-leb, lt-leb}
 use Rattle.util.specs.Outcome.{Outcome, result, refusal}
 use Rattle.errors.specs.Refusal.{refusalOutcome}
-use Rattle.errors.specs.Output.{writeOutcome, writeOutput, Writes, piecesFrom, pieces}
+use Rattle.output.specs.Output.{writeOutcome, writeOutput, Writes, piecesFrom, pieces}
 use Rattle.errors.specs.declared.Refusal.{Refusal}
 use Rattle.errors.proofs.Refusals.{refusal-not, refusal-any}
 
 -- bytes stored behind others that were stored
 pub sets-append : (l : List ℕ) (p : ℕ) (xs ys : List ℕ) → sets (sets l p xs) (p + length xs) ys ≡ sets l p (xs ++ ys)
 sets-append l p [] ys = rw add-zero
 sets-append l p (x ∷ xs) ys = rw (add-suc, ← suc-add) (sets-append (set l p x) (suc p) xs ys)
+
+-- bytes stored at the start of an output
+pub sets-start : (text entry : List ℕ) → length text ≤ length entry → sets entry 0 text ≡ text ++ drop (length text) entry
+sets-start text entry h = sets-eq text entry 0 (omega arith) ∙ rw zero-add
 
 -- an output, `entry` at first and `now` after the text was written to its first `end` bytes
 pub record Wrote (text entry : List ℕ) (end : ℕ) (now : List ℕ) : Type 0 where
@@ -110,10 +114,23 @@ module _ (f : ℕ → List ℕ) where
       go false q first = let e : n ≡ suc count = omega (arith, leb-false n count q) in rw e (omega arith)
 
   -- pieces of one length
-  pub pieces-length : (m : ℕ) → ((n : ℕ) → length (f n) ≡ m) → (count : ℕ) → length (pieces f count) ≡ count * m
+  pub pieces-length : (m count : ℕ) → ((n : ℕ) → n < count → length (f n) ≡ m) → length (pieces f count) ≡ count * m
   unfolding pieces
-  pieces-length m each zero = rw zero-mul
-  pieces-length m each (suc count) = rw (length-append, suc-mul) (omega (arith, each count, pieces-length m each count))
+  pieces-length m zero each = rw zero-mul
+  pieces-length m (suc count) each =
+      rw (length-append, suc-mul) (omega (arith, each count (omega arith), pieces-length m count (λ n h. each n (omega (arith, h)))))
+
+-- pieces that are the same below n
+pub pieces-same : (f g : ℕ → List ℕ) (n : ℕ) → ((i : ℕ) → i < n → f i ≡ g i) → pieces f n ≡ pieces g n
+unfolding pieces
+pieces-same f g zero e = refl
+pieces-same f g (suc n) e = rw (pieces-same f g n (λ i l. e i (omega arith)), e n (omega arith))
+
+-- m pieces, and n behind them
+pub pieces-add : (f : ℕ → List ℕ) (m n : ℕ) → pieces f (m + n) ≡ pieces f m ++ pieces (λ i. f (m + i)) n
+unfolding pieces
+pieces-add f m zero = rw (add-zero, append-nil)
+pieces-add f m (suc n) = rw (add-suc, pieces-add f m n, append-assoc)
 
 -- by the first piece and the rest
 pieces-cons : (f : ℕ → List ℕ) (n : ℕ) → pieces f (suc n) ≡ f 0 ++ pieces (λ i. f (suc i)) n
