@@ -1,35 +1,23 @@
 -- What each call answers, as a function of the reading's answer and the call's other arguments. Assumes nothing.
-use Prim.Native.Nat.{ℕ, zero, suc, _*_}
+use Prim.Native.Nat.{ℕ, zero, suc}
 use mathlib.Core.Path.{_≡_}
 use mathlib.Core.List.{List, [], _∷_}
-use lib.ListN.{length, take, replicate}
-use Rattle.util.specs.Outcome.{Outcome, result, refusal, _>>=_}
-use Rattle.util.specs.Take.{takenPart}
+use lib.ListN.{length, replicate}
+use Rattle.util.specs.Outcome.{Outcome, result, refusal}
 use Rattle.nds.specs.Params.{repeatS, mirrorS, repeatT, mirrorT}
-use Rattle.nds.specs.Formats.{alpha, dataLength, secondLength}
+use Rattle.nds.specs.Formats.{alpha}
 use Rattle.nds.specs.Wrap.{wrapOf}
 use Rattle.errors.specs.Refusal.{absentNumber, refusalOutcome}
 use Rattle.errors.specs.declared.Kind.{Kind}
 use Rattle.errors.specs.declared.Kind.the-variants as kind
 use Rattle.errors.specs.declared.Status.{Status}
 use Rattle.errors.specs.declared.Status.the-variants.{Done, Refused}
-use Rattle.info_block.specs.Script.{Answer, outcomeOf}
-use Rattle.reading.specs.Tex.{Data, Texture, Palette, Contents, headerOf, dataAt, secondAt}
-use Rattle.reading.specs.declared.Header.{Header}
+use Rattle.scripts.specs.Script.{Answer, outcomeOf}
+use Rattle.reading.specs.Tex.{Texture, Palette, Contents}
 use Rattle.nitro.specs.declared.tex.Reading.{Reading}
 use Rattle.nitro.specs.declared.tex.Reading.the-variants as reading
 use Rattle.nitro.specs.declared.tex.TextureRecord.{TextureRecord}
 use Rattle.nitro.specs.declared.tex.PaletteRecord.{PaletteRecord}
-use Rattle.nitro.specs.declared.tex.PaletteChoice.{PaletteChoice}
-use Rattle.nitro.specs.declared.tex.PaletteChoice.the-variants as choice
-use Rattle.nitro.specs.declared.tex.PaletteOff.{PaletteOff}
-use Rattle.nitro.specs.declared.tex.PaletteOff.the-variants as off
-use Rattle.nitro.specs.declared.tex.Place.{Place}
-use Rattle.nitro.specs.declared.tex.Places.{Places}
-use Rattle.nitro.specs.declared.tex.Located.{Located}
-use Rattle.nitro.specs.declared.tex.Located.the-variants as located
-use Rattle.nitro.specs.declared.tex.Placed.{Placed}
-use Rattle.nitro.specs.declared.tex.Placed.the-variants as placed
 
 -- 01, "When a call is declined": "A reading gives both counts".
 pub record Counts : Type 0 where
@@ -113,65 +101,3 @@ data2Of n a = partOf (textureEntry (λ t. t .parts .data2) n a)
 
 unfoldable pub palBlockOf : Answer Contents → List ℕ
 palBlockOf a = partOf (outcomeOf a λ c. result (c .palBlock))
-
--- What a picture is made from: the word and data of a texture, the offset of the palette chosen for it, if one was, and the palette block.
-pub record Sources : Type 0 where
-  pub word : ℕ
-  pub parts : Data
-  pub palette : PaletteOff
-  pub palBlock : List ℕ
-
--- 01, "Rust idioms to redo": "`Option<&Palette>`: an enum with a number, the palette bytes beside it."
-unfoldable pub chosenOf : PaletteChoice → List Palette → Outcome PaletteOff
-chosenOf choice.None palettes = result off.None
-chosenOf (choice.Number k) palettes = entry kind.Palette (λ p. off.At (p .off)) palettes k
-
--- "A picture from a block: reading, 7, 8 (also where the palette is unneeded), .."
-unfoldable pub sourcesOf : (n : ℕ) → PaletteChoice → Answer Contents → Outcome Sources
-sourcesOf n choice a = outcomeOf a λ c. do
-  texture ← entry kind.Texture (λ t. t) (c .textures) n
-  palette ← chosenOf choice (c .palettes)
-  result (record { word = texture .word; parts = texture .parts; palette = palette; palBlock = c .palBlock })
-
--- Where the palette block is: "palette block (8 times its unit count)".
-abbrev pub palPlaceAt : Header → Place
-palPlaceAt h = record { pos = h .«pal_block_off»; len = 8 * h .«pal_block_len_shr_3» }
-
-unfoldable pub palPlaceOf : (block : List ℕ) → Answer Contents → Outcome Place
-palPlaceOf block a = outcomeOf a λ c. result (palPlaceAt (headerOf (take 60 block)))
-
-abbrev pub placedOutcome : Placed → Outcome Place
-placedOutcome (placed.Found place) = result place
-placedOutcome (placed.Refused r) = refusalOutcome r
-
--- The places of a picture's parts. 01, "Modules" 5: "Data lies at `tex_block_off` + offset. For format 5 it lies at
--- `compressed1_block_off` + offset, then half as many bytes at `compressed2_block_off` + half the offset."
-abbrev pub placesAt : Header → (word : ℕ) → PaletteOff → Places
-placesAt h word palette = record {
-  params = record { 0 = word };
-  data1 = record { pos = dataAt h word; len = dataLength word };
-  data2 = record { pos = secondAt h word; len = secondLength word };
-  palette = palette;
-  «pal_block» = palPlaceAt h;
-}
-
-unfoldable pub placesOf : (n : ℕ) → PaletteChoice → (block : List ℕ) → Answer Contents → Outcome Places
-placesOf n choice block a = do
-  sources ← sourcesOf n choice a
-  result (placesAt (headerOf (take 60 block)) (sources .word) (sources .palette))
-
-abbrev pub locatedOutcome : Located → Outcome Places
-locatedOutcome (located.Found places) = result places
-locatedOutcome (located.Refused r) = refusalOutcome r
-
--- The part of the block at a place, and all parts at a picture's places.
-abbrev pub partAt : (block : List ℕ) → Place → List ℕ
-partAt block place = takenPart (place .pos) (place .len) block
-
-abbrev pub sourcesAt : (block : List ℕ) → Places → Sources
-sourcesAt block places = record {
-  word = places .params .0;
-  parts = record { data1 = partAt block (places .data1); data2 = partAt block (places .data2) };
-  palette = places .palette;
-  palBlock = partAt block (places .«pal_block»);
-}

@@ -1,3 +1,2 @@
 pub mod ByLayout
 pub mod Calls
-pub mod Rows

@@ -16,14 +16,15 @@ use Rattle.nds.specs.Params.{format}
 use Rattle.nds.specs.Formats.{dataLength, secondLength}
 use Rattle.errors.specs.Refusal.{badStamp}
 use Rattle.errors.specs.declared.Kind.the-variants as kinds
-use Rattle.info_block.specs.Script.{done, fault, whole, run, outcomeOf, bytesAt, each}
+use Rattle.scripts.specs.Script.{done, fault, whole, run, outcomeOf, bytesAt, each}
 use Rattle.info_block.specs.InfoBlock.{NameList, listAt, listLength, nameList, entryName, entryNumber}
 use Rattle.reading.specs.Tex as Tex
-use Rattle.reading.specs.Tex.{Contents, hasStamp, headerOf, dataAt, secondAt, paletteAt, readHeader, readPalBlock, readSecond, readData}
+use Rattle.reading.specs.Tex.{Contents, hasStamp, headerOf, paletteAt, readHeader, readPalBlock, readSecond, readData}
+use Rattle.layout.specs.Positions.{dataAt, secondAt}
 use Rattle.reading.specs.Tex.{readTexture, readTextures, readPalettes, readTex}
-use Rattle.reading.specs.declared.Header.{Header}
-use Rattle.info_block.proofs.Runs.{onward, both, bytes-in, bytes-whole, expect-met, expect-failed, expect-held, expected, outcome-map, outcome-bind}
-use Rattle.info_block.proofs.Runs.{outcome-same, each-count, each-done, each-length, each-at, Follows, follows-bind, follows-onward}
+use Rattle.layout.specs.declared.Header.{Header}
+use Rattle.scripts.proofs.Runs.{onward, both, bytes-in, bytes-whole, expect-met, expect-failed, expect-held, expected, outcome-map, outcome-bind}
+use Rattle.scripts.proofs.Runs.{outcome-same, each-count, each-done, each-length, each-at, Follows, follows-bind, follows-onward}
 use Rattle.info_block.proofs.Lists.{name-listed}
 
 -- the stamp, where it stands in the block

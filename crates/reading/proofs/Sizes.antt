@@ -13,14 +13,15 @@ use Rattle.nds.specs.Params.{format, offset}
 use Rattle.nds.specs.Formats.{dataLength}
 use Rattle.nds.proofs.Sizes.{data-length-lt}
 use Rattle.errors.specs.Refusal.{Fault}
-use Rattle.info_block.specs.Script.{Script, done, Answer, short, fault, whole, run, bytesAt, expect, each, eachFrom, _>>=_, _>>_}
+use Rattle.scripts.specs.Script.{Script, done, Answer, short, fault, whole, run, bytesAt, expect, each, eachFrom, _>>=_, _>>_}
 use Rattle.info_block.specs.InfoBlock.{NameList, datumAt, listLength, wholeList, nameList, entryNumber}
-use Rattle.reading.specs.Tex.{Contents, Texture, Palette, headerOf, dataAt, secondAt, paletteAt, readHeader, readPalBlock}
+use Rattle.reading.specs.Tex.{Contents, Texture, Palette, headerOf, paletteAt, readHeader, readPalBlock}
+use Rattle.layout.specs.Positions.{dataAt, secondAt}
 use Rattle.reading.specs.Tex.{readSecond, readData, readTexture, readTextures, readPalettes, readTex}
 use Rattle.errors.specs.declared.Kind.{Kind}
 use Rattle.errors.specs.declared.Kind.the-variants as kinds
-use Rattle.reading.specs.declared.Header.{Header}
-use Rattle.info_block.proofs.Runs.{andThen, run-bind, both, bytes-whole, each-length}
+use Rattle.layout.specs.declared.Header.{Header}
+use Rattle.scripts.proofs.Runs.{andThen, run-bind, both, bytes-whole, each-length}
 use Rattle.info_block.proofs.Lists.{data-small, listed}
 use Rattle.reading.proofs.Readings.{header-whole, finished, textures-listed, palettes-listed}
 

@@ -1,15 +1,16 @@
 -- What `lay_out` answers with: the layout, which is the header and both counts; and what the functions below it hand on. Assumes nothing.
 use Prim.Native.Nat.{ℕ}
+use mathlib.Core.Path.{_≡_}
 use mathlib.Core.List.{List}
 use lib.ListN.{length, take}
 use Rattle.util.specs.Outcome.{Outcome, result}
 use Rattle.errors.specs.Refusal.{refusalOutcome}
 use Rattle.errors.specs.declared.Kind.the-variants as kind
-use Rattle.info_block.specs.Script.{Script, Answer, run, outcomeOf, each}
+use Rattle.scripts.specs.Script.{Script, Answer, run, outcomeOf, each}
 use Rattle.info_block.specs.InfoBlock.{listAt}
-use Rattle.reading.specs.Tex.{Texture, Contents, headerOf, readTexture}
-use Rattle.reading.specs.declared.Header.{Header}
-use Rattle.reading.specs.declared.Layout.{Layout}
+use Rattle.reading.specs.Tex.{Texture, Contents, headerOf, readTexture, readTex}
+use Rattle.layout.specs.declared.Header.{Header}
+use Rattle.layout.specs.declared.Layout.{Layout}
 use Rattle.reading.specs.declared.Headed.{Headed}
 use Rattle.reading.specs.declared.Headed.the-variants as headed
 use Rattle.reading.specs.declared.Laid.{Laid}
@@ -40,3 +41,7 @@ layoutOf block c = record {
 
 unfoldable pub layoutAnswer : (block : List ℕ) → Answer Contents → Outcome Layout
 layoutAnswer block a = outcomeOf a λ c. result (layoutOf block c)
+
+-- The layout of the block, as `lay_out` finds it: what a call that is handed a layout beside the block demands of it.
+pub record LaidOut (block : List ℕ) (layout : Layout) : Type 0 where
+  pub is : result layout ≡ layoutAnswer block (run readTex block)

@@ -1,17 +1,18 @@
 -- Reading a block: 01's order of reading as one script, and what a finished reading holds. Assumes nothing.
-use Prim.Native.Nat.{ℕ, _+_, _*_, _/_}
+use Prim.Native.Nat.{ℕ, _*_, _/_}
 use mathlib.Core.Bool.{Bool, cond, _&&_}
 use mathlib.Core.List.{List, []}
 use lib.ListN.{getD}
 use lib.Dec.{eqb}
 use Rattle.util.specs.Number.{numberAt}
-use Rattle.nds.specs.Params.{format, offset}
+use Rattle.nds.specs.Params.{format}
 use Rattle.nds.specs.Formats.{dataLength}
 use Rattle.errors.specs.Refusal.{badStamp}
 use Rattle.errors.specs.declared.Kind.the-variants as kind
-use Rattle.info_block.specs.Script.{Script, done, bytesAt, expect, each, _>>=_, _>>_}
+use Rattle.scripts.specs.Script.{Script, done, bytesAt, expect, each, _>>=_, _>>_}
 use Rattle.info_block.specs.InfoBlock.{NameList, nameList, entryName, entryNumber}
-use Rattle.reading.specs.declared.Header.{Header}
+use Rattle.layout.specs.Positions.{dataAt, secondAt}
+use Rattle.layout.specs.declared.Header.{Header}
 
 -- What a finished reading holds: the "names, words, data, palettes" of the demands. Second data is a block-compressed texture's.
 pub record Data : Type 0 where
@@ -50,15 +51,7 @@ headerOf header = record {
   «pal_block_off» = numberAt 4 56 header;
 }
 
--- 01, "Modules" 5: "Data lies at `tex_block_off` + offset. For format 5 it lies at `compressed1_block_off` + offset".
-unfoldable pub dataAt : Header → (word : ℕ) → ℕ
-dataAt h w = cond (eqb (format w) 5) (h .«compressed1_block_off») (h .«tex_block_off») + offset w
-
--- "then half as many bytes at `compressed2_block_off` + half the offset".
-unfoldable pub secondAt : Header → (word : ℕ) → ℕ
-secondAt h w = h .«compressed2_block_off» + offset w / 2
-
--- "Order of reading: header, stamp, .."
+-- 01, "Modules" 5: "Order of reading: header, stamp, .."
 unfoldable pub readHeader : Script Header
 readHeader = do
   header ← bytesAt 0 60

@@ -5,38 +5,26 @@ use errors::Counted;
 use errors::Kind;
 use errors::Refusal;
 use errors::Status;
-use info_block::take;
+use layout::Header;
+use layout::Layout;
+use layout::data1_pos;
+use layout::data2_pos;
+use layout::pal_block_len;
+use layout::params_at;
 use nds::texture_params::TextureParams;
+use scripts::take;
 use util::view::view_u16;
 use util::view::view_u32;
 ghost use mathlib.Core.Path.{_≡_};
-ghost use Prim.Native.Nat.{_+_, _*_, _<_, _≤_, _^_};
+ghost use Prim.Native.Nat.{_+_, _≤_};
 ghost use lib.ListN.{length, take as firstBytes};
 ghost use Rattle.util.specs.Outcome.{result};
 ghost use Rattle.errors.specs.Refusal.{statusOutcome, countedOutcome};
 ghost use Rattle.errors.specs.declared.Kind.the-variants as kinds;
-ghost use Rattle.info_block.specs.Script.{run, outcomeOf, passing};
-ghost use Rattle.info_block.specs.InfoBlock.{listAt, listLength, entryNumber};
+ghost use Rattle.scripts.specs.Script.{run, outcomeOf, passing};
+ghost use Rattle.info_block.specs.InfoBlock.{listLength};
 ghost use Rattle.reading.specs.Tex as Tex;
 ghost use Rattle.reading.specs.Layouts as Layouts;
-
-pub struct Header {
-    pub texture_off: u16,
-    pub tex_block_off: u32,
-    pub compressed1_block_off: u32,
-    pub compressed2_block_off: u32,
-    // The palette block's length in units of 8 bytes.
-    pub pal_block_len_shr_3: u16,
-    pub palette_off: u32,
-    pub pal_block_off: u32,
-}
-
-// Where a block's lists and data are, and how long the lists are.
-pub struct Layout {
-    pub header: Header,
-    pub textures: usize,
-    pub palettes: usize,
-}
 
 enum Headed {
     Found(Header),
@@ -97,40 +85,11 @@ fn read_header(block: &[u8]) -> Headed
     }
 }
 
-// The palette block's length in bytes.
-pub fn pal_block_len(header: Header) -> usize
-    ensures { λ r. ⌜ r ≡ 8 * header .«pal_block_len_shr_3» ⌝ }
-    ensures { λ r. ⌜ r < 2 ^ 19 ⌝ }
-{
-    8 * (header.pal_block_len_shr_3 as usize)
-}
-
 // Whether the palette block is there.
 fn take_pal_block(block: &[u8], header: Header) -> Status
     ensures { λ r. ⌜ statusOutcome r ≡ passing (Tex.readPalBlock header) (now (block .entry)) ⌝ }
 {
     take(block, header.pal_block_off as usize, pal_block_len(header))
-}
-
-// Where a texture's data, or a block-compressed texture's first data, begins.
-pub fn data1_pos(header: Header, params: TextureParams) -> usize
-    ensures { λ r. ⌜ (r ≡ Tex.dataAt header (params .0)) × (r < 2 ^ 33) ⌝ }
-{
-    let format = params.format();
-    let offset = params.offset() as usize;
-    if format.0 == 5 {
-        header.compressed1_block_off as usize + offset
-    } else {
-        header.tex_block_off as usize + offset
-    }
-}
-
-// Where a block-compressed texture's second data begins.
-pub fn data2_pos(header: Header, params: TextureParams) -> usize
-    ensures { λ r. ⌜ (r ≡ Tex.secondAt header (params .0)) × (r < 2 ^ 33) ⌝ }
-{
-    let offset = params.offset() as usize;
-    header.compressed2_block_off as usize + offset / 2
 }
 
 // Whether the second data is there, for a texture that has any.
@@ -153,14 +112,6 @@ fn take_data(block: &[u8], header: Header, params: TextureParams) -> Status
         Status::Refused(refusal) => Status::Refused(refusal),
         Status::Done => take_data2(block, header, params),
     }
-}
-
-// The word of texture n.
-pub fn params_at(block: &[u8], pos: usize, count: usize, n: usize) -> TextureParams
-    requires { ⌜ (pos + listLength kinds.Texture count ≤ length (now block)) × (n < count) ⌝ }
-    ensures { λ r. ⌜ r .0 ≡ entryNumber kinds.Texture 4 (listAt kinds.Texture pos count (now (block .entry))) n ⌝ }
-{
-    TextureParams(view_u32(block, pos + (16 + 4 * count + 8 * n)))
 }
 
 // Whether the data of all textures are there, in list order.

@@ -3,10 +3,10 @@ use mathlib.Core.Path.{_≡_, ap, sym, _∙_}
 use lib.ListN.{length}
 use denote.Ref.{now}
 use borrow.Author.Needs.{needs}
-use Rattle.info_block.specs.Script.{run, whole}
+use Rattle.scripts.specs.Script.{run, whole}
 use Rattle.reading.specs.Tex.{readHeader, readPalBlock, readTextures}
 use Rattle.reading.specs.Layouts.{layoutAnswer}
-use Rattle.info_block.proofs.Runs.{Ended, ended, whole-outcome, refused}
+use Rattle.scripts.proofs.Runs.{Ended, ended, whole-outcome, refused}
 use Rattle.reading.proofs.Readings.{header-whole, read-header-follows, read-pal-block-follows, read-textures-follows}
 use Rattle.reading.proofs.Readings.{read-palettes-follows, read-whole}
 use Rattle.reading.proofs.lay_out.Statement.{statement}

@@ -6,9 +6,9 @@ use denote.Ref.{now}
 use borrow.Author.Needs.{needs}
 use Rattle.util.specs.Outcome.{result}
 use Rattle.errors.specs.declared.Kind.the-variants.{Texture}
-use Rattle.info_block.specs.Script.{run, whole, outcomeOf}
+use Rattle.scripts.specs.Script.{run, whole, outcomeOf}
 use Rattle.info_block.specs.InfoBlock.{listAt, nameList}
-use Rattle.info_block.proofs.Runs.{refused}
+use Rattle.scripts.proofs.Runs.{refused}
 use Rattle.info_block.proofs.Lists.{name-listed, list-counted}
 use Rattle.reading.proofs.Readings.{textures-follow, textures-read}
 use Rattle.reading.proofs.read_textures.Statement.{statement}

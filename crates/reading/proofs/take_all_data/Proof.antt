@@ -9,12 +9,12 @@ use denote.Ref.{now}
 use borrow.Author.Needs.{needs}
 use Rattle.util.specs.Outcome.{Outcome, result}
 use Rattle.errors.specs.declared.Kind.the-variants as kinds
-use Rattle.info_block.specs.Script.{Script, run, outcomeOf, eachFrom}
+use Rattle.scripts.specs.Script.{Script, run, outcomeOf, eachFrom}
 use Rattle.info_block.specs.InfoBlock.{listAt}
 use Rattle.reading.specs.Tex.{Texture, readTexture}
 use Rattle.reading.specs.Layouts.{counting, eachTexture}
-use Rattle.reading.specs.declared.Header.{Header}
-use Rattle.info_block.proofs.Runs.{ended, each-turn, each-none, each-count, each-follows, follows-trans, refused}
+use Rattle.layout.specs.declared.Header.{Header}
+use Rattle.scripts.proofs.Runs.{ended, each-turn, each-none, each-count, each-follows, follows-trans, refused}
 use Rattle.reading.proofs.Readings.{texture-follows, texture-read}
 use Rattle.reading.proofs.take_all_data.Statement.{statement}
 use Rattle.reading.proofs.take_all_data.Tie as tie

@@ -4,7 +4,7 @@ use native.Mathlib.Omega.{arith}
 use denote.Ref.{now}
 use borrow.Author.Needs.{needs}
 use Rattle.nds.proofs.Sizes.{data-length-lt}
-use Rattle.info_block.proofs.Runs.{take-within, refused}
+use Rattle.scripts.proofs.Runs.{take-within, refused}
 use Rattle.reading.proofs.Readings.{data-follows, first-taken}
 use Rattle.reading.proofs.take_data.Statement.{statement}
 use Rattle.reading.proofs.take_data.Tie as tie

@@ -5,8 +5,8 @@ use denote.Ref.{now}
 use borrow.Author.Needs.{needs}
 use Rattle.util.specs.Outcome.{result}
 use Rattle.nds.proofs.Sizes.{second-length-lt}
-use Rattle.info_block.specs.Script.{run, outcomeOf}
-use Rattle.info_block.proofs.Runs.{whole-outcome}
+use Rattle.scripts.specs.Script.{run, outcomeOf}
+use Rattle.scripts.proofs.Runs.{whole-outcome}
 use Rattle.reading.proofs.Readings.{second-taken, second-none}
 use Rattle.reading.proofs.take_data2.Statement.{statement}
 use Rattle.reading.proofs.take_data2.Tie as tie

@@ -1,9 +1,8 @@
 -- `nitro::tex::find` meets its contract: the entry is there exactly if its number is below the count. Assumes nothing.
+use denote.Ref.{now}
 use borrow.Author.Needs.{needs}
-use Rattle.reading.specs.Layouts.{layoutAnswer}
-use Rattle.nitro.specs.ByLayout.{layoutWith}
-use Rattle.nitro.proofs.Answers.{with-entry, without-entry}
-use Rattle.info_block.proofs.Runs.{ended, follows-self, refused}
+use Rattle.reading.specs.Layouts.{LaidOut}
+use Rattle.nitro.proofs.Answers.{laid-entry, laid-no-entry, not-laid}
 use Rattle.nitro.proofs.tex.find.Statement.{statement}
 use Rattle.nitro.proofs.tex.find.Tie as tie
 
@@ -20,24 +19,20 @@ count-of-requires : tie.Need-count-of-requires
 count-of-requires c κs = search needs
 
 returns : tie.Need-returns
-unfolding layoutAnswer layoutWith
 returns c =
-    refused _ _ (follows-self _) _ _ (c .before .refusal .given .0 .0)
+    not-laid _ _ _ (c .before .refusal .given .0 .0)
     (rw (c .before .refusal .given .1) at (c .before .before .before .lay-out .ensures))
 
+-- the layout that was found is the block's
+laid : (c : tie.After-count-of)
+    → LaidOut (now (c .before .before .before .before .before .before .args .block)) (c .before .before .layout .given .0 .0)
+laid c = record { is = rw (c .before .before .layout .given .1) at (c .before .before .before .before .lay-out .ensures) }
+
 returns-2 : tie.Need-returns-2
-unfolding layoutAnswer
-returns-2 c =
-    let l = c .before .before in
-    let o = ended _ _ (rw (l .before .layout .given .1) at (l .before .before .before .lay-out .ensures)) in
-    with-entry _ (o .is) (o .gives) _ _ (rw (c .before .count-of .ensures) at (c .if1 .taken))
+returns-2 c = laid-entry _ _ _ (laid (c .before)) (rw (c .before .count-of .ensures) at (c .if1 .taken))
 
 returns-3 : tie.Need-returns-3
-unfolding layoutAnswer
-returns-3 c =
-    let l = c .before .before in
-    let o = ended _ _ (rw (l .before .layout .given .1) at (l .before .before .before .lay-out .ensures)) in
-    without-entry _ (o .is) (o .gives) _ _ (rw (c .before .count-of .ensures) at (c .if1 .left))
+returns-3 c = laid-no-entry _ _ _ (laid (c .before)) (rw (c .before .count-of .ensures) at (c .if1 .left))
 
 pub find-spec : {M : Type 1} → statement M
 find-spec =

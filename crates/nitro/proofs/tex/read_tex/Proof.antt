@@ -4,7 +4,7 @@ use borrow.Author.Needs.{needs}
 use Rattle.nitro.specs.Calls.{readingOf}
 use Rattle.reading.specs.Layouts.{layoutAnswer}
 use Rattle.nitro.proofs.Answers.{reading-laid}
-use Rattle.info_block.proofs.Runs.{ended, follows-self, refused}
+use Rattle.scripts.proofs.Runs.{ended, follows-self, refused}
 use Rattle.nitro.proofs.tex.read_tex.Statement.{statement}
 use Rattle.nitro.proofs.tex.read_tex.Tie as tie
 
