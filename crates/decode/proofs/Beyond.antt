@@ -15,12 +15,12 @@ use Rattle.util.specs.Number.{numberAt}
 use Rattle.util.proofs.Numbers.{number-in-part}
 use Rattle.nds.specs.Params.{width, height, format}
 use Rattle.nds.specs.Formats.{dataLength, secondLength}
-use Rattle.nitro.specs.Calls.{Sources}
-use Rattle.decode.specs.Texels.{texelBits, blockOf, format1, formats2to4, format5, format6, format7}
+use Rattle.places.specs.Sources.{Sources}
+use Rattle.texels.specs.Texels.{texelBits, blockOf, format1, formats2to4, format5, format6, format7}
 use Rattle.decode.specs.Pictures.{texelCount, texel, pictureBytes, lacksPalette, ready, sources, decoded}
 use Rattle.decode.proofs.Pictures.{eights, length-by, second-by, texel1, texel2, texel3, texel4, texel5, texel6, texel7}
-use Rattle.decode.proofs.Quads.{quads-same}
-use Rattle.decode.proofs.Rows.{mul-below}
+use Rattle.output.proofs.Outputs.{pieces-same}
+use Rattle.compressed.proofs.Rows.{mul-below}
 
 -- the sources with their data cut to the lengths that the word says
 abbrev pub needed : Sources → Sources
@@ -111,7 +111,7 @@ module _ (s : Sources) (n : ℕ) (h : n < texelCount (s .word)) where
 
 same-bytes : (s : Sources) → (format (s .word) ≡ 0 → ⊥) → pictureBytes s ≡ pictureBytes (needed s)
 unfolding pictureBytes
-same-bytes s some = quads-same (texel s) (texel (needed s)) (texelCount (s .word)) (λ n h. same-texel s n h some)
+same-bytes s some = pieces-same (texel s) (texel (needed s)) (texelCount (s .word)) (λ n h. same-texel s n h some)
 
 pub beyond-ignored : (s : Sources) → decoded s ≡ decoded (needed s)
 unfolding decoded ready _>>=_

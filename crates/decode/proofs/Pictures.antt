@@ -13,22 +13,23 @@ use Rattle.util.specs.Outcome.{Outcome, result, refusal, _>>=_}
 use Rattle.nds.specs.Params.{width, height, format, color0Transparent}
 use Rattle.nds.specs.Formats.{bitsPerTexel, dataLength, secondLength}
 use Rattle.errors.specs.Refusal.{refusalOutcome}
-use Rattle.errors.specs.Output.{Writes}
+use Rattle.output.specs.Output.{Writes, pieces}
 use Rattle.errors.specs.declared.Refusal.{Refusal}
 use Rattle.errors.proofs.Refusals.{refusal-not, refusal-any}
-use Rattle.errors.proofs.Outputs.{writes-fits, writes-refusal, writes-short}
-use Rattle.info_block.specs.Script.{Answer}
+use Rattle.output.proofs.Outputs.{writes-fits, writes-refusal, writes-short}
+use Rattle.scripts.specs.Script.{Answer}
 use Rattle.reading.specs.Tex.{Contents}
-use Rattle.nitro.specs.Calls.{Sources, sourcesOf}
-use Rattle.nitro.specs.declared.tex.PaletteChoice.{PaletteChoice}
-use Rattle.nitro.specs.declared.tex.PaletteOff.{PaletteOff}
-use Rattle.nitro.proofs.Answers.{passed-on}
-use Rattle.decode.specs.Texels as Texels
-use Rattle.decode.specs.Pictures.{quads, texelCount, pictureLength, offOf, texel, pictureBytes, lacksPalette, lacksData}
-use Rattle.decode.specs.Pictures.{ready, decoded, pictureOf}
-use Rattle.decode.specs.Steps.{painted, Decodable, lacksRoom, checked, compressedTexel}
-use Rattle.decode.proofs.Quads.{length-quads}
-use Rattle.decode.proofs.Texels.{format1-four, formats2to4-four, format5-four, format6-four, format7-four}
+use Rattle.places.specs.Sources.{Sources, sourcesOf}
+use Rattle.places.specs.declared.PaletteChoice.{PaletteChoice}
+use Rattle.places.specs.declared.PaletteOff.{PaletteOff}
+use Rattle.places.proofs.Sources.{passed-on}
+use Rattle.texels.specs.Texels as Texels
+use Rattle.paint.specs.Paint.{painted}
+use Rattle.decode.specs.Pictures.{texelCount, pictureLength, offOf, texel, pictureBytes, lacksPalette, lacksData, ready, decoded, pictureOf}
+use Rattle.decode.specs.Checks.{Decodable, lacksRoom, checked}
+use Rattle.compressed.specs.Blocks.{compressedTexel}
+use Rattle.paint.proofs.Quads.{length-quads}
+use Rattle.texels.proofs.Texels.{format1-four, formats2to4-four, format5-four, format6-four, format7-four}
 
 -- a word's sizes: 8 times a number each
 pub record Eights (w : ℕ) : Type 0 where
@@ -139,7 +140,7 @@ module _ (s : Sources) where
   unfolding pictureBytes
   length-picture = length-quads (texel s) (texelCount (s .word)) (λ i l. texel-four i)
 
-  picture-is : (rest : List ℕ) → quads (texel s) (texelCount (s .word)) ++ drop (pictureLength (s .word)) rest
+  picture-is : (rest : List ℕ) → pieces (texel s) (texelCount (s .word)) ++ drop (pictureLength (s .word)) rest
       ≡ pictureBytes s ++ drop (pictureLength (s .word)) rest
   unfolding pictureBytes
   picture-is rest = refl

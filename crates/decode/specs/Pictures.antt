@@ -1,26 +1,22 @@
 -- Pictures: texels in order, direct decoding, and a picture from a block. Assumes nothing.
-use Prim.Native.Nat.{ℕ, zero, suc, _*_, _/_, _%_}
+use Prim.Native.Nat.{ℕ, _*_, _/_, _%_}
 use mathlib.Core.Bool.{Bool, false, cond, _||_}
-use mathlib.Core.List.{List, [], _++_}
+use mathlib.Core.List.{List}
 use lib.ListN.{length}
 use lib.Dec.{ltb, eqb}
 use Rattle.util.specs.Outcome.{Outcome, result, refusal, _>>=_}
 use Rattle.nds.specs.Params.{width, height, format, color0Transparent}
 use Rattle.nds.specs.Formats.{paletteNeeded, dataLength, secondLength}
-use Rattle.info_block.specs.Script.{Answer}
+use Rattle.scripts.specs.Script.{Answer}
 use Rattle.reading.specs.Tex.{Contents}
-use Rattle.nitro.specs.Calls.{Sources, sourcesOf}
-use Rattle.nitro.specs.declared.tex.PaletteChoice.{PaletteChoice}
-use Rattle.nitro.specs.declared.tex.PaletteOff.{PaletteOff}
-use Rattle.nitro.specs.declared.tex.PaletteOff.the-variants as off
-use Rattle.decode.specs.Texels as Texels
+use Rattle.places.specs.Sources.{Sources, sourcesOf}
+use Rattle.places.specs.declared.PaletteChoice.{PaletteChoice}
+use Rattle.places.specs.declared.PaletteOff.{PaletteOff}
+use Rattle.places.specs.declared.PaletteOff.the-variants as off
+use Rattle.texels.specs.Texels as Texels
+use Rattle.output.specs.Output.{pieces}
 
--- 01, "Pixels": "Texels run by rows from the top left, four output bytes R, G, B, A each": the bytes of the first n texels.
-unfoldable pub quads : (texel : ℕ → List ℕ) (n : ℕ) → List ℕ
-quads texel zero = []
-quads texel (suc n) = quads texel n ++ texel n
-
--- "A picture is 4 · width · height bytes".
+-- 01, "Pixels": "A picture is 4 · width · height bytes".
 abbrev pub texelCount : (word : ℕ) → ℕ
 texelCount w = width w * height w
 
@@ -47,8 +43,9 @@ texel s n =
     (cond (eqb f 5) (Texels.format5 w texels (s .parts .data2) (s .palBlock) p (n % w) (n / w))
     (cond (eqb f 6) (Texels.format6 texels (s .palBlock) p n) (Texels.format7 texels n))))))
 
+-- "Texels run by rows from the top left, four output bytes R, G, B, A each": the bytes of all texels, one behind the other.
 unfoldable pub pictureBytes : Sources → List ℕ
-pictureBytes s = quads (texel s) (texelCount (s .word))
+pictureBytes s = pieces (texel s) (texelCount (s .word))
 
 -- 01, "When a call is declined": "formats 1 to 6, no palette chosen".
 abbrev pub lacksPalette : (word : ℕ) → PaletteOff → Bool
@@ -65,7 +62,7 @@ ready w length1 length2 palette =
     cond (lacksPalette w palette) (refusal 9 0)
     (cond (eqb (format w) 0) (refusal 10 0) (cond (lacksData w length1 length2) (refusal 12 0) (result tt)))
 
--- "Direct decoding (..): 9, 10, 12, 11." 11 is the output's: `Writes` of the crate nitro has it.
+-- "Direct decoding (..): 9, 10, 12, 11." 11 is the output's: `Writes` of the crate output has it.
 unfoldable pub decoded : Sources → Outcome (List ℕ)
 decoded s = do
   _ ← ready (s .word) (length (s .parts .data1)) (length (s .parts .data2)) (s .palette)

@@ -7,11 +7,11 @@ use denote.Ref.{now}
 use borrow.Author.Needs.{needs}
 use Rattle.nds.specs.Params.{format}
 use Rattle.nds.specs.Formats.{bitsPerTexel}
-use Rattle.nitro.specs.Calls.{Sources}
+use Rattle.places.specs.Sources.{Sources}
 use Rattle.decode.specs.Pictures.{texelCount, sources}
-use Rattle.decode.specs.Steps.{IndexedFits}
+use Rattle.paint.specs.Paint.{IndexedFits}
 use Rattle.decode.proofs.Pictures.{eights, length-by, second-by, texel1, texel2, texel3, texel4, texel5, texel6, texel7}
-use Rattle.decode.proofs.Quads.{painted-same}
+use Rattle.paint.proofs.Quads.{painted-same}
 use Rattle.decode.proofs.decode_texture.decode_format.Statement.{statement}
 use Rattle.decode.proofs.decode_texture.decode_format.Tie as tie
 
