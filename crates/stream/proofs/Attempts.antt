@@ -9,13 +9,13 @@ use lib.Dec.{leb}
 use borrow.Author.Tests.{leb-true, leb-false}
 use Rattle.util.specs.Outcome.{Outcome, refusal}
 use Rattle.reading.specs.Tex.{readTex}
-use Rattle.nitro.specs.declared.tex.PaletteChoice.{PaletteChoice}
+use Rattle.places.specs.declared.PaletteChoice.{PaletteChoice}
 use Rattle.stream.specs.Fetch.{shortness, Call, Stops, Attempts, shortOnes, Fetched, readingCall, pictureCall}
 use Rattle.stream.specs.declared.shortness.Shortness.{Shortness}
 use Rattle.stream.specs.declared.shortness.Shortness.the-variants.{Needs, Enough}
-use Rattle.stream.proofs.Calls.{Scripted, reading-scripted, picture-scripted}
+use Rattle.laws.proofs.Calls.{Scripted, reading-scripted, picture-scripted}
 use Rattle.stream.proofs.Fetches.{needs-short, Fetching, fetch-start, Ending, Waiting, settled, waiting, fetched}
-use Rattle.stream.proofs.Prefixes.{prefix-law}
+use Rattle.laws.proofs.Prefixes.{prefix-law}
 
 -- a fetching run, from an attempt on
 pub record Ran {A B : Type 0} (call : Call A B) (block : List ℕ) (given : ℕ) (output : B) : Type 0 where

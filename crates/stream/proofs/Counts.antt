@@ -15,11 +15,12 @@ use Rattle.nds.specs.Formats.{dataLength}
 use Rattle.errors.specs.Refusal.{Fault}
 use Rattle.errors.specs.declared.Kind.{Kind}
 use Rattle.errors.specs.declared.Kind.the-variants as kinds
-use Rattle.info_block.specs.Script.{Script, done, refuse, get, whole, run, ends, records, bytesAt, expect, eachFrom, _>>=_, _>>_}
+use Rattle.scripts.specs.Script.{Script, done, refuse, get, whole, run, ends, records, bytesAt, expect, eachFrom, _>>=_, _>>_}
 use Rattle.info_block.specs.InfoBlock.{NameList, wholeList, nameList}
-use Rattle.reading.specs.Tex.{hasStamp, headerOf, dataAt, secondAt, paletteAt, readHeader, readPalBlock, readSecond, readData, readTexture}
+use Rattle.reading.specs.Tex.{hasStamp, headerOf, paletteAt, readHeader, readPalBlock, readSecond, readData, readTexture}
+use Rattle.layout.specs.Positions.{dataAt, secondAt}
 use Rattle.reading.specs.Tex.{readTextures, readPalettes, readTex}
-use Rattle.info_block.proofs.Runs.{both, bytes-whole}
+use Rattle.scripts.proofs.Runs.{both, bytes-whole}
 use Rattle.info_block.proofs.Lists.{listed}
 use Rattle.reading.proofs.Readings.{header-there, header-whole}
 use Rattle.stream.specs.Fetch.{shortAnswers, textureCount}

@@ -9,12 +9,13 @@ use Rattle.util.specs.Outcome.{result, refusal}
 use Rattle.nds.specs.Params.{width, height, format, offset}
 use Rattle.nds.specs.Formats.{dataLength}
 use Rattle.name.specs.Name.{trimmed, safeText}
-use Rattle.info_block.specs.Script.{run, ends, records, outcomeOf, bytesAt, expect, eachFrom, _>>=_, _>>_}
-use Rattle.reading.specs.Tex.{headerOf, dataAt, readHeader, readPalBlock, readSecond, readData, readTexture, readTextures, readPalettes, readTex}
+use Rattle.scripts.specs.Script.{run, ends, records, outcomeOf, bytesAt, expect, eachFrom, _>>=_, _>>_}
+use Rattle.reading.specs.Tex.{headerOf, readHeader, readPalBlock, readSecond, readData, readTexture, readTextures, readPalettes, readTex}
+use Rattle.layout.specs.Positions.{dataAt}
 use Rattle.info_block.specs.InfoBlock.{wholeList, nameList}
 use Rattle.nitro.specs.Calls.{readingOf}
 use Rattle.nitro.proofs.Sample.{leaf, sample}
-use Rattle.decode.specs.Texels.{widen, pixel, paletteColor, texelBits, alpha3, format1, opaque, mix, modeColor, format6, format7}
+use Rattle.texels.specs.Texels.{widen, pixel, paletteColor, texelBits, alpha3, format1, opaque, mix, modeColor, format6, format7}
 use Rattle.stream.specs.Fetch.{shortAnswers}
 
 -- A palette block of 32 colours, all 0 but colour 5: its red, green and blue are 1, 2 and 3, which widen to 8, 16 and 24.

@@ -8,15 +8,15 @@ use lib.ListN.{length, take}
 use lib.Dec.{eqb}
 use borrow.Author.Tests.{eqb-true}
 use Rattle.util.specs.Outcome.{Outcome, result, refusal}
-use Rattle.errors.proofs.Outputs.{refused-keeps}
-use Rattle.info_block.specs.Script.{short, ends, records}
+use Rattle.output.proofs.Outputs.{refused-keeps}
+use Rattle.scripts.specs.Script.{short, ends, records}
 use Rattle.reading.specs.Tex.{readTex}
-use Rattle.nitro.specs.declared.tex.PaletteChoice.{PaletteChoice}
-use Rattle.info_block.proofs.Early.{early-settled, early-waits}
+use Rattle.places.specs.declared.PaletteChoice.{PaletteChoice}
+use Rattle.scripts.proofs.Early.{early-settled, early-waits}
 use Rattle.stream.specs.Fetch.{shortness, Call, shortAnswers, Fetched, pictureCall}
-use Rattle.stream.specs.Prefix.{Prefix}
+use Rattle.laws.specs.Prefix.{Prefix}
 use Rattle.stream.specs.declared.shortness.Shortness.the-variants.{Needs, Enough}
-use Rattle.stream.proofs.Calls.{Scripted, NotShort}
+use Rattle.laws.proofs.Calls.{Scripted, NotShort}
 use Rattle.stream.proofs.Counts.{bound}
 
 -- whether an answer is short

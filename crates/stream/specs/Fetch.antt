@@ -7,11 +7,11 @@ use lib.ListN.{length, take}
 use lib.Dec.{leb, eqb}
 use Rattle.util.specs.Number.{numberAt}
 use Rattle.util.specs.Outcome.{Outcome, result, refusal}
-use Rattle.errors.specs.Output.{writeOutcome, writeOutput}
-use Rattle.info_block.specs.Script.{run, ends, records}
+use Rattle.output.specs.Output.{writeOutcome, writeOutput}
+use Rattle.scripts.specs.Script.{run, ends, records}
 use Rattle.reading.specs.Tex.{hasStamp, headerOf, readTex}
 use Rattle.nitro.specs.Calls.{Counts, readingOf}
-use Rattle.nitro.specs.declared.tex.PaletteChoice.{PaletteChoice}
+use Rattle.places.specs.declared.PaletteChoice.{PaletteChoice}
 use Rattle.decode.specs.Pictures.{pictureOf}
 use Rattle.stream.specs.declared.shortness.Shortness.{Shortness}
 use Rattle.stream.specs.declared.shortness.Shortness.the-variants.{Needs, Enough}

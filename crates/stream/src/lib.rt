@@ -1,5 +1,5 @@
-// Blocks that are still arriving. Every call that takes a block may be lent its first bytes alone: specs/Prefix.antt says what the answer
-// tells of the whole block.
+// Fetching: a reading or a picture of a whole block, lent no more of it than an answer before has asked for. What an answer on the first bytes tells
+// of the whole block is said by specs/Prefix.antt of the crate laws.
 pub mod fetch_picture;
 pub mod fetch_tex;
 mod shortness;

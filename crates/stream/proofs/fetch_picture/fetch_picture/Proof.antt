@@ -6,14 +6,14 @@ use lib.ListN.{length, take}
 use denote.Ref.{now}
 use borrow.Author.Needs.{needs}
 use Rattle.errors.specs.Refusal.{countedOutcome}
-use Rattle.errors.specs.Output.{writeOutcome, writeOutput, Writes}
-use Rattle.info_block.specs.Script.{run}
+use Rattle.output.specs.Output.{writeOutcome, writeOutput, Writes}
+use Rattle.scripts.specs.Script.{run}
 use Rattle.reading.specs.Tex.{readTex}
 use Rattle.decode.specs.Pictures.{pictureOf}
 use Rattle.stream.specs.Fetch.{pictureCall}
-use Rattle.stream.proofs.Calls.{picture-scripted}
+use Rattle.laws.proofs.Calls.{picture-scripted}
 use Rattle.stream.proofs.Fetches.{Fetching, fetch-start, Waiting, settled, waiting, fetched}
-use Rattle.stream.proofs.Prefixes.{prefix-laws}
+use Rattle.laws.proofs.Prefixes.{arriving}
 use Rattle.stream.proofs.fetch_picture.fetch_picture.Statement.{statement}
 use Rattle.stream.proofs.fetch_picture.fetch_picture.Tie as tie
 
@@ -56,7 +56,7 @@ returns c =
     let l = tried .before .before in
     let a = l .before .before .before .args in
     let end =
-    settled (picture-scripted (a .n) (a .choice) (now (a .out))) (prefix-laws .picture (a .n) (a .choice) (now (a .out))) _ (l .loop .inv .1)
+    settled (picture-scripted (a .n) (a .choice) (now (a .out))) (arriving .picture (a .n) (a .choice) (now (a .out))) _ (l .loop .inv .1)
     (attempted tried .outcome)
     (rw (c .enum-told .given .1) at (told .counted-shortness .ensures)) in
     fetched (pictureCall _ _) _ (end .full) (attempted tried .output ∙ end .left) (omega (arith, end .counted))
@@ -79,7 +79,7 @@ short-attempt c =
     let tried = told .before .before .before in
     let l = tried .before .before in
     let a = l .before .before .before .args in
-    waiting (picture-scripted (a .n) (a .choice) (now (a .out))) (prefix-laws .picture (a .n) (a .choice) (now (a .out))) _ (l .loop .inv .1)
+    waiting (picture-scripted (a .n) (a .choice) (now (a .out))) (arriving .picture (a .n) (a .choice) (now (a .out))) _ (l .loop .inv .1)
     (attempted tried .outcome)
     (rw (c .before .needed .given .1) at (told .counted-shortness .ensures))
 

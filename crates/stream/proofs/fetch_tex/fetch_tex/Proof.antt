@@ -6,14 +6,14 @@ use lib.ListN.{length}
 use lib.Seq.{length-take-le}
 use denote.Ref.{now}
 use borrow.Author.Needs.{needs}
-use Rattle.info_block.specs.Script.{run}
+use Rattle.scripts.specs.Script.{run}
 use Rattle.reading.specs.Tex.{readTex}
 use Rattle.nitro.specs.Calls.{readingOf, readingOutcome}
 use Rattle.stream.specs.Fetch.{readingCall}
-use Rattle.stream.specs.Prefix.{nothing}
-use Rattle.stream.proofs.Calls.{reading-scripted}
+use Rattle.laws.specs.BlockCalls.{nothing}
+use Rattle.laws.proofs.Calls.{reading-scripted}
 use Rattle.stream.proofs.Fetches.{Fetching, fetch-start, Waiting, settled, waiting, fetched}
-use Rattle.stream.proofs.Prefixes.{prefix-laws}
+use Rattle.laws.proofs.Prefixes.{arriving}
 use Rattle.stream.proofs.fetch_tex.fetch_tex.Statement.{statement}
 use Rattle.stream.proofs.fetch_tex.fetch_tex.Tie as tie
 
@@ -46,7 +46,7 @@ returns c =
     let told = c .before .before in
     let attempt = told .before in
     let end =
-    settled reading-scripted (prefix-laws .read-tex) _ (attempt .before .before .loop .inv) (attempt .read-tex .ensures)
+    settled reading-scripted (arriving .read-tex) _ (attempt .before .before .loop .inv) (attempt .read-tex .ensures)
     (rw (c .enum-told .given .1) at (told .reading-shortness .ensures)) in
     fetched readingCall _ (end .full) refl (omega (arith, end .counted))
 
@@ -61,7 +61,7 @@ short-attempt : (c : tie.After-known-told Inv-loop μ-loop)
 short-attempt c =
     let told = c .before .before .before in
     let attempt = told .before in
-    waiting reading-scripted (prefix-laws .read-tex) _ (attempt .before .before .loop .inv) (attempt .read-tex .ensures)
+    waiting reading-scripted (arriving .read-tex) _ (attempt .before .before .loop .inv) (attempt .read-tex .ensures)
     (rw (c .before .needed .given .1) at (told .reading-shortness .ensures))
 
 add-short-answers : tie.Need-add-short-answers Inv-loop μ-loop

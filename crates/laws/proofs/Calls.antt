@@ -12,25 +12,26 @@ use Rattle.util.specs.Outcome.{Outcome, result, refusal, _>>=_}
 use Rattle.util.proofs.Parts.{part-of-prefix}
 use Rattle.nds.specs.Params.{format}
 use Rattle.errors.specs.Refusal.{Fault, badStamp, badDummy, badSize, faultNumber, absentNumber}
-use Rattle.errors.specs.Output.{writeOutcome, writeOutput}
+use Rattle.output.specs.Output.{writeOutcome, writeOutput}
 use Rattle.errors.specs.declared.Kind.{Kind}
 use Rattle.errors.specs.declared.Kind.the-variants as kinds
-use Rattle.info_block.specs.Script.{Script, Answer, short, fault, whole, run, outcomeOf}
+use Rattle.scripts.specs.Script.{Script, Answer, short, fault, whole, run, outcomeOf}
 use Rattle.info_block.specs.InfoBlock.{nameList, listCount}
 use Rattle.reading.specs.Tex.{Palette, Contents, headerOf, readTex}
 use Rattle.reading.specs.Layouts.{layoutAnswer}
-use Rattle.reading.specs.declared.Layout.{Layout}
+use Rattle.layout.specs.declared.Layout.{Layout}
 use Rattle.nitro.specs.Calls as Calls
-use Rattle.nitro.specs.Rows.{rowsIn, rowsOf}
-use Rattle.nitro.specs.declared.tex.PaletteChoice.{PaletteChoice}
-use Rattle.nitro.specs.declared.tex.PaletteChoice.the-variants as choices
-use Rattle.nitro.specs.declared.tex.PaletteOff.{PaletteOff}
-use Rattle.nitro.specs.declared.tex.Place.{Place}
-use Rattle.nitro.specs.declared.tex.Places.{Places}
-use Rattle.info_block.proofs.Runs.{bytes-out}
+use Rattle.places.specs.Sources as Sources
+use Rattle.rows.specs.Rows.{rowsIn, rowsOf}
+use Rattle.places.specs.declared.PaletteChoice.{PaletteChoice}
+use Rattle.places.specs.declared.PaletteChoice.the-variants as choices
+use Rattle.places.specs.declared.PaletteOff.{PaletteOff}
+use Rattle.places.specs.declared.Place.{Place}
+use Rattle.places.specs.declared.Places.{Places}
+use Rattle.scripts.proofs.Runs.{bytes-out}
 use Rattle.reading.proofs.Readings.{header-follows, read-header-follows}
 use Rattle.decode.specs.Pictures.{ready, decoded, pictureOf, lacksPalette, lacksData}
-use Rattle.stream.specs.Prefix.{nothing}
+use Rattle.laws.specs.BlockCalls.{nothing}
 
 -- On two blocks, or parts of one, of which the script comes to the same, the call gives the same. Where the script is short, the call is
 -- short of the same length, and leaves what stands beside its answer as declined; and nowhere else is it short.
@@ -145,8 +146,8 @@ module _ (n : ℕ) where
   data2-scripted = of-answer readTex (Calls.textureOf n) (Calls.data2Of n) [] (λ w. (refl, refl)) texture-short
 
 -- what a picture is made from, where it is, and the picture
-chosen-not : (choice : PaletteChoice) (palettes : List Palette) → NotShort (Calls.chosenOf choice palettes)
-unfolding Calls.chosenOf
+chosen-not : (choice : PaletteChoice) (palettes : List Palette) → NotShort (Sources.chosenOf choice palettes)
+unfolding Sources.chosenOf
 chosen-not choices.None palettes w e = result-not {A = PaletteOff} w e
 chosen-not (choices.Number k) palettes w e = entry-not kinds.Palette _ palettes k w e
 
@@ -161,7 +162,7 @@ ready-not word length1 length2 palette =
     (cond-not (eqb (format word) 0) (number-not {A = Unit {0}} {k = 10} (λ e. omega (arith, e)))
     (cond-not (lacksData word length1 length2) (number-not {A = Unit {0}} {k = 12} (λ e. omega (arith, e))) (result-not {A = Unit {0}})))
 
-decoded-not : (s : Calls.Sources) → NotShort (decoded s)
+decoded-not : (s : Sources.Sources) → NotShort (decoded s)
 unfolding decoded
 decoded-not s =
     bind-not (ready (s .word) (length (s .parts .data1)) (length (s .parts .data2)) (s .palette)) _
@@ -206,10 +207,10 @@ lay-out-scripted = record {
   only-short = λ b w e. outcome-short (run readTex b) _ (λ _. result-not {A = Layout}) w e;
 }
 
-pub pal-place-scripted : Scripted readTex (λ b. Calls.palPlaceOf b (run readTex b)) nothing tt
-unfolding Calls.palPlaceOf outcomeOf
+pub pal-place-scripted : Scripted readTex (λ b. Sources.palPlaceOf b (run readTex b)) nothing tt
+unfolding Sources.palPlaceOf outcomeOf
 pal-place-scripted = record {
-  same = λ b m h e. (by-header (λ header a. outcomeOf a λ c. result (Calls.palPlaceAt (headerOf header))) (λ header a w q. rw q) b m h e, refl);
+  same = λ b m h e. (by-header (λ header a. outcomeOf a λ c. result (Sources.palPlaceAt (headerOf header))) (λ header a w q. rw q) b m h e, refl);
   at-short = λ b w e. (rw e, refl);
   only-short = λ b w e. outcome-short (run readTex b) _ (λ _. result-not {A = Place}) w e;
 }
@@ -236,45 +237,45 @@ module _ (kind : Kind) where
   }
 
 module _ (n : ℕ) (choice : PaletteChoice) where
-  sources-short : (a : Answer Contents) (w : ℕ) → Calls.sourcesOf n choice a ≡ refusal 1 w → a ≡ short w
-  unfolding Calls.sourcesOf
+  sources-short : (a : Answer Contents) (w : ℕ) → Sources.sourcesOf n choice a ≡ refusal 1 w → a ≡ short w
+  unfolding Sources.sourcesOf
   sources-short a w e =
       outcome-short a _
       (λ c.
       bind-not (Calls.entry kinds.Texture (λ t. t) (c .textures) n) _ (entry-not kinds.Texture (λ t. t) (c .textures) n)
-      (λ t. bind-not (Calls.chosenOf choice (c .palettes)) _ (chosen-not choice (c .palettes)) (λ p. result-not {A = Calls.Sources})))
+      (λ t. bind-not (Sources.chosenOf choice (c .palettes)) _ (chosen-not choice (c .palettes)) (λ p. result-not {A = Sources.Sources})))
       w
       e
 
-  places-at-short : (b : List ℕ) (a : Answer Contents) (w : ℕ) → a ≡ short w → Calls.placesOf n choice b a ≡ refusal 1 w
-  unfolding Calls.placesOf Calls.sourcesOf outcomeOf _>>=_
+  places-at-short : (b : List ℕ) (a : Answer Contents) (w : ℕ) → a ≡ short w → Sources.placesOf n choice b a ≡ refusal 1 w
+  unfolding Sources.placesOf Sources.sourcesOf outcomeOf _>>=_
   places-at-short b a w e = rw e
 
   places-same : (b : List ℕ) (m : ℕ) → m ≤ length b → run readTex (take m b) ≡ run readTex b
-      → Calls.placesOf n choice (take m b) (run readTex (take m b)) ≡ Calls.placesOf n choice b (run readTex b)
-  unfolding Calls.placesOf Calls.sourcesOf outcomeOf _>>=_
+      → Sources.placesOf n choice (take m b) (run readTex (take m b)) ≡ Sources.placesOf n choice b (run readTex b)
+  unfolding Sources.placesOf Sources.sourcesOf outcomeOf _>>=_
   places-same =
-      by-header (λ header a. Calls.sourcesOf n choice a >>= λ s. result (Calls.placesAt (headerOf header) (s .word) (s .palette)))
+      by-header (λ header a. Sources.sourcesOf n choice a >>= λ s. result (Sources.placesAt (headerOf header) (s .word) (s .palette)))
       (λ header a w e. rw e)
 
-  pub locate-scripted : Scripted readTex (λ b. Calls.placesOf n choice b (run readTex b)) nothing tt
-  unfolding Calls.placesOf
+  pub locate-scripted : Scripted readTex (λ b. Sources.placesOf n choice b (run readTex b)) nothing tt
+  unfolding Sources.placesOf
   locate-scripted = record {
     same = λ b m h e. (places-same b m h e, refl);
     at-short = λ b w e. (places-at-short b _ w e, refl);
     only-short =
         λ b w e.
-        sources-short (run readTex b) w (bind-short (Calls.sourcesOf n choice (run readTex b)) _ (λ s. result-not {A = Places}) w e);
+        sources-short (run readTex b) w (bind-short (Sources.sourcesOf n choice (run readTex b)) _ (λ s. result-not {A = Places}) w e);
   }
 
   picture-short : (a : Answer Contents) (w : ℕ) → pictureOf n choice a ≡ refusal 1 w → a ≡ short w
   unfolding pictureOf
-  picture-short a w e = sources-short a w (bind-short (Calls.sourcesOf n choice a) decoded decoded-not w e)
+  picture-short a w e = sources-short a w (bind-short (Sources.sourcesOf n choice a) decoded decoded-not w e)
 
   pub picture-scripted : (output : List ℕ)
       → Scripted readTex (λ b. writeOutcome (pictureOf n choice (run readTex b)) output)
       (λ b. writeOutput (pictureOf n choice (run readTex b)) output) output
-  unfolding pictureOf Calls.sourcesOf outcomeOf _>>=_ writeOutcome writeOutput
+  unfolding pictureOf Sources.sourcesOf outcomeOf _>>=_ writeOutcome writeOutput
   picture-scripted output =
       of-answer readTex (λ a. writeOutcome (pictureOf n choice a) output) (λ a. writeOutput (pictureOf n choice a) output) output
       (λ w. (refl, refl))

@@ -1,0 +1,2 @@
+pub mod BlockCalls
+pub mod Prefix
