@@ -7,20 +7,19 @@ use mathlib.Core.List.{List, [], _∷_, map}
 use native.Mathlib.Nat.{add-zero, add-suc, suc-add, suc-mul}
 use native.Mathlib.Omega.{arith}
 use lib.ListN.{length, getD, length-append, length-map}
-use lib.Dec.{ltb, lit≤, lit<}
+use lib.Dec.{ltb, lit<}
 use Rattle.util.specs.Outcome.{result, refusal}
-use Rattle.errors.specs.Output.{piecesFrom}
+use Rattle.output.specs.Output.{piecesFrom}
 use Rattle.errors.specs.Refusal.{Fault, badStamp, badDummy, badSize, faultNumber}
 use Rattle.errors.specs.declared.Kind.the-variants.{Texture, Palette}
-use Rattle.info_block.specs.Script.{Answer, short, fault, whole, run, outcomeOf}
+use Rattle.scripts.specs.Script.{Answer, short, fault, whole, run, outcomeOf}
 use Rattle.reading.specs.Tex.{Contents, readTex}
 use Rattle.nitro.specs.Calls.{textureRecord, paletteRecord}
 use Rattle.reading.proofs.Sizes.{want-small, textures-few, palettes-few, texture-name, palette-name, palette-off}
 use Rattle.text.specs.Text.{ascii, decimal, line}
 use Rattle.lines.specs.Lines.{textureLine, paletteLine}
 use Rattle.lines.proofs.Lengths.{texture-length, palette-length}
-use Rattle.listing.specs.Listing.{headed, listsOf}
-use Rattle.listing.specs.Listing.{refusedLine, printed, listingOutcome, listingText}
+use Rattle.listing.specs.Listing.{headed, listsOf, refusedLine, printed, listingOutcome, listingText}
 use Rattle.text.proofs.Decimals.{decimal-length}
 
 -- the line of a refusal

@@ -6,15 +6,15 @@ use Rattle.util.specs.Number.{numberAt}
 use Rattle.nds.specs.Params.{width, height}
 use Rattle.nds.specs.Formats.{alpha, dataLength}
 use Rattle.name.specs.Name.{trimmed, safeText}
-use Rattle.info_block.specs.Script.{run, outcomeOf, bytesAt, expect, eachFrom, _>>=_, _>>_}
+use Rattle.scripts.specs.Script.{run, outcomeOf, bytesAt, expect, eachFrom, _>>=_, _>>_}
 use Rattle.info_block.specs.InfoBlock.{wholeList, nameList}
-use Rattle.reading.specs.Tex.{headerOf, dataAt, readHeader, readPalBlock, readSecond, readData, readTexture, readTextures, readPalettes, readTex}
+use Rattle.reading.specs.Tex.{headerOf, readHeader, readPalBlock, readSecond, readData, readTexture, readTextures, readPalettes, readTex}
+use Rattle.layout.specs.Positions.{dataAt}
 use Rattle.nitro.proofs.Sample.{leaf, sample}
 use Rattle.text.specs.Text.{ascii, decimalBelow, decimal, line}
-use Rattle.errors.specs.Output.{piecesFrom}
+use Rattle.output.specs.Output.{piecesFrom}
 use Rattle.lines.specs.Lines.{wrapWord, alphaWord, textureLine, paletteLine}
-use Rattle.listing.specs.Listing.{headed, listsOf}
-use Rattle.listing.specs.Listing.{refusedLine, listingOutcome, listingText}
+use Rattle.listing.specs.Listing.{headed, listsOf, refusedLine, listingOutcome, listingText}
 
 pub record Examples : Type 0 where
   -- "It prints: .."

@@ -1,15 +1,12 @@
 -- The laws of lists of lines: by their count, as the code writes them, and by the records of a reading. Assumes nothing.
-use Prim.Native.Nat.{ℕ, zero, suc, _+_, _≤_, _<_}
-use mathlib.Core.Path.{_≡_, refl, _∙_}
-use mathlib.Core.List.{List, [], _∷_, _++_, map, append-nil, append-assoc}
-use mathlib.Core.Bool.{Bool, true, false}
-use native.Mathlib.Nat.{add-zero, zero-add, add-suc, suc-add}
+use Prim.Native.Nat.{ℕ, zero, suc, _+_, _<_}
+use mathlib.Core.Path.{_≡_, refl}
+use mathlib.Core.List.{List, [], _∷_, _++_, map}
+use native.Mathlib.Nat.{zero-add}
 use native.Mathlib.Numerals.{add-one}
 use native.Mathlib.Omega.{arith}
 use lib.ListN.{length, getD, length-append, length-map}
-use lib.Dec.{leb}
-use borrow.Author.Tests.{leb-true, leb-false}
-use Rattle.info_block.specs.Script.{whole, run, outcomeOf}
+use Rattle.scripts.specs.Script.{whole, run, outcomeOf}
 use Rattle.reading.specs.Tex.{Contents, readTex}
 use Rattle.nitro.specs.Calls.{entry, textureEntry, paletteEntry, textureRecord, paletteRecord, textureOf, paletteOf, noTexture, noPalette, valueOr}
 use Rattle.errors.specs.declared.Kind.{Kind}
@@ -18,8 +15,8 @@ use Rattle.lines.specs.Lines.{textureLine, paletteLine}
 use Rattle.listing.specs.Listing.{headed, listsOf}
 use Rattle.text.specs.Put.{Room, Put}
 use Rattle.listing.specs.Lists.{entryLine, listOf}
-use Rattle.errors.specs.Output.{pieces}
-use Rattle.errors.proofs.Outputs.{pieces-part, pieces-listed}
+use Rattle.output.specs.Output.{pieces}
+use Rattle.output.proofs.Outputs.{pieces-part, pieces-listed}
 use Rattle.text.proofs.Puts.{put-length, put-then}
 
 -- one line of those that have room

@@ -6,8 +6,8 @@ use mathlib.Core.List.{List, [], _∷_, _++_, map}
 use lib.ListN.{length}
 use lib.Dec.{ltb}
 use Rattle.util.specs.Outcome.{Outcome, result, refusal}
-use Rattle.errors.specs.Output.{piecesFrom}
-use Rattle.info_block.specs.Script.{run, outcomeOf}
+use Rattle.output.specs.Output.{piecesFrom}
+use Rattle.scripts.specs.Script.{run, outcomeOf}
 use Rattle.reading.specs.Tex.{Contents, readTex}
 use Rattle.nitro.specs.Calls.{textureRecord, paletteRecord}
 use Rattle.nitro.specs.declared.tex.TextureRecord.{TextureRecord}

@@ -1,10 +1,10 @@
 -- What the private functions put of a listing; no public contract cites it. Assumes nothing.
 use Prim.Native.Nat.{ℕ}
 use mathlib.Core.List.{List, [], _∷_, _++_}
-use Rattle.info_block.specs.Script.{Answer}
+use Rattle.scripts.specs.Script.{Answer}
 use Rattle.reading.specs.Tex.{Contents}
 use Rattle.nitro.specs.Calls.{textureOf, paletteOf, noTexture, noPalette, valueOr}
-use Rattle.errors.specs.Output.{pieces}
+use Rattle.output.specs.Output.{pieces}
 use Rattle.errors.specs.declared.Kind.{Kind}
 use Rattle.errors.specs.declared.Kind.the-variants.{Texture, Palette}
 use Rattle.text.specs.Text.{ascii, decimal, line}

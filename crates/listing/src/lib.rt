@@ -2,23 +2,30 @@
 use errors::Counted;
 use errors::Kind;
 use errors::Refusal;
+use layout::Layout;
+use layout::count_of;
 use lines::put_palette;
 use lines::put_texture;
-use nitro::tex;
-use nitro::tex::Reading;
+use nitro::tex::palette_by;
+use nitro::tex::texture_by;
+use reading::Laid;
+use reading::lay_out;
 use text::put;
 use text::put_field;
 use text::put_number;
 ghost use mathlib.Core.Path.{_≡_};
 ghost use mathlib.Core.List.{[], _∷_, _++_};
+ghost use Prim.Native.Nat.{_<_};
 ghost use lib.ListN.{length};
 ghost use lib.Dec.{ltb};
 ghost use Rattle.io.specs.Counts.{Counts};
 ghost use Rattle.util.specs.Outcome.{result};
-ghost use Rattle.errors.specs.Output.{Writes};
+ghost use Rattle.output.specs.Output.{Writes};
 ghost use Rattle.errors.specs.Refusal.{countedOutcome};
-ghost use Rattle.info_block.specs.Script.{run};
+ghost use Rattle.scripts.specs.Script.{run};
 ghost use Rattle.reading.specs.Tex.{readTex};
+ghost use Rattle.reading.specs.Layouts.{LaidOut};
+ghost use Rattle.layout.specs.Positions.{countOf};
 ghost use Rattle.text.specs.Text.{ascii, decimal, line};
 ghost use Rattle.text.specs.Put.{Room, Put};
 ghost use Rattle.listing.specs.Listing as Listing;
@@ -30,20 +37,14 @@ pub const MAX_INPUT: usize = 65536;
 // No listing is longer than this, in bytes: 255 textures and 255 palettes, with names of 16 bytes and the longest numbers and words.
 pub const MAX_LISTING: usize = 22211;
 
-// The line of the block's texture or palette n.
-fn put_entry(out: &mut [u8], at: usize, block: &[u8], kind: Kind, n: usize) -> usize
-    requires { ⌜ Room (entryLine kind (run readTex (now block)) n) (now out) at ⌝ }
+// The line of texture or palette n, by the block's layout.
+fn put_entry(out: &mut [u8], at: usize, block: &[u8], kind: Kind, layout: Layout, n: usize) -> usize
+    requires { ⌜ LaidOut (now block) layout × ((n < countOf kind layout) × Room (entryLine kind (run readTex (now block)) n) (now out) at) ⌝ }
     ensures { λ r. ⌜ Put (entryLine kind (run readTex (now (block .entry))) n) (now (out .entry)) at (now (out .exit)) r ⌝ }
 {
     match kind {
-        Kind::Texture => {
-            let answer = tex::texture(block, n);
-            put_texture(out, at, n, answer.texture)
-        }
-        Kind::Palette => {
-            let answer = tex::palette(block, n);
-            put_palette(out, at, n, answer.palette)
-        }
+        Kind::Texture => put_texture(out, at, n, texture_by(block, layout, n)),
+        Kind::Palette => put_palette(out, at, n, palette_by(block, layout, n)),
     }
 }
 
@@ -67,15 +68,16 @@ fn put_heading(out: &mut [u8], at: usize, kind: Kind, count: usize) -> usize
     put_number(out, at, count, b"\n")
 }
 
-// The list of the block's textures or palettes, of which there are count.
-fn put_list(out: &mut [u8], at: usize, block: &[u8], kind: Kind, count: usize) -> usize
-    requires { ⌜ Room (listOf kind (run readTex (now block)) count) (now out) at ⌝ }
-    ensures { λ r. ⌜ Put (listOf kind (run readTex (now (block .entry))) count) (now (out .entry)) at (now (out .exit)) r ⌝ }
+// The list of the block's textures or palettes. All lines are of one reading.
+fn put_list(out: &mut [u8], at: usize, block: &[u8], kind: Kind, layout: Layout) -> usize
+    requires { ⌜ LaidOut (now block) layout × Room (listOf kind (run readTex (now block)) (countOf kind layout)) (now out) at ⌝ }
+    ensures { λ r. ⌜ Put (listOf kind (run readTex (now (block .entry))) (countOf kind layout)) (now (out .entry)) at (now (out .exit)) r ⌝ }
 {
+    let count = count_of(kind, layout);
     let mut at = put_heading(out, at, kind, count);
     let mut n = 0;
     while n < count {
-        at = put_entry(out, at, block, kind, n);
+        at = put_entry(out, at, block, kind, layout, n);
         n += 1;
     }
     at
@@ -106,12 +108,12 @@ fn put_listing(out: &mut [u8], at: usize, input: &[u8]) -> usize
     if is_too_long(input) {
         return put_refused(out, at, 13, 0);
     }
-    match tex::read_tex(input) {
-        Reading::Counts(textures, palettes) => {
-            let at = put_list(out, at, input, Kind::Texture, textures);
-            put_list(out, at, input, Kind::Palette, palettes)
+    match lay_out(input) {
+        Laid::Found(layout) => {
+            let at = put_list(out, at, input, Kind::Texture, layout);
+            put_list(out, at, input, Kind::Palette, layout)
         }
-        Reading::Refused(refusal) => put_refused(out, at, refusal.number(), refusal.returned()),
+        Laid::Refused(refusal) => put_refused(out, at, refusal.number(), refusal.returned()),
     }
 }
 

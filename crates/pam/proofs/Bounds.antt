@@ -8,10 +8,10 @@ use native.Mathlib.Omega.{arith}
 use lib.ListN.{length, length-append}
 use Rattle.util.specs.Outcome.{Outcome, result, refusal, _>>=_}
 use Rattle.nds.proofs.Sizes.{width-le, height-le}
-use Rattle.info_block.specs.Script.{Answer}
+use Rattle.scripts.specs.Script.{Answer}
 use Rattle.reading.specs.Tex.{Contents}
-use Rattle.nitro.specs.Calls.{Sources, sourcesOf}
-use Rattle.nitro.specs.declared.tex.PaletteChoice.{PaletteChoice}
+use Rattle.places.specs.Sources.{Sources, sourcesOf}
+use Rattle.places.specs.declared.PaletteChoice.{PaletteChoice}
 use Rattle.decode.specs.Pictures.{texelCount, pictureOf}
 use Rattle.decode.proofs.Pictures.{picture-found}
 use Rattle.text.specs.Text.{ascii, line}

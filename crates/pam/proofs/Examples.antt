@@ -3,17 +3,17 @@ use mathlib.Core.Path.{_≡_, refl}
 use mathlib.Core.List.{[]}
 use lib.ListN.{length}
 use Rattle.nds.specs.Params.{width, height}
-use Rattle.nitro.specs.declared.tex.PaletteChoice.the-variants as choices
-use Rattle.nitro.specs.Calls.{sourcesOf}
-use Rattle.info_block.specs.Script.{run, outcomeOf, bytesAt, _>>=_, _>>_}
+use Rattle.places.specs.declared.PaletteChoice.the-variants as choices
+use Rattle.places.specs.Sources.{sourcesOf}
+use Rattle.scripts.specs.Script.{run, outcomeOf, bytesAt, _>>=_, _>>_}
 use Rattle.reading.specs.Tex.{readHeader, readTex}
 use Rattle.util.specs.Outcome.{_>>=_ as _andThen_}
 use Rattle.text.specs.Text.{ascii, decimalBelow, decimal, line}
 use Rattle.listing.specs.Listing.{refusedLine, printed}
-use Rattle.pam.specs.Arguments.{allDigits, spelledFrom, numberOf, isDash, choiceOf}
+use Rattle.arguments.specs.Arguments.{allDigits, spelledFrom, numberOf, isDash, choiceOf}
 use Rattle.pam.specs.Pam.{headerText, pamOf, shownOutcome}
-use Rattle.pam.specs.declared.arguments.Parsed.the-variants as parsed
-use Rattle.pam.specs.declared.arguments.ParsedChoice.the-variants as parsedChoice
+use Rattle.arguments.specs.declared.Parsed.the-variants as parsed
+use Rattle.arguments.specs.declared.ParsedChoice.the-variants as parsedChoice
 
 pub record Examples : Type 0 where
   -- the header of 01's sample, 8 by 8

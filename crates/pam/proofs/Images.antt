@@ -14,15 +14,15 @@ use borrow.Rule.Slice.PartMut.{midOf, putMid, mid-len, put-same}
 use Rattle.util.specs.Outcome.{Outcome, result, refusal, _>>=_}
 use Rattle.nds.specs.Params.{width, height}
 use Rattle.errors.specs.Refusal.{refusalOutcome}
-use Rattle.errors.specs.Output.{writeOutcome, Writes}
+use Rattle.output.specs.Output.{writeOutcome, Writes}
 use Rattle.errors.specs.declared.Refusal.{Refusal}
 use Rattle.errors.proofs.Refusals.{refusal-not, refusal-any}
-use Rattle.errors.proofs.Outputs.{writes-fits, writes-refusal, writes-short, refused-keeps}
-use Rattle.info_block.specs.Script.{Answer}
+use Rattle.output.proofs.Outputs.{writes-fits, writes-refusal, writes-short, refused-keeps}
+use Rattle.scripts.specs.Script.{Answer}
 use Rattle.reading.specs.Tex.{Contents}
-use Rattle.nitro.specs.Calls.{Sources, sourcesOf}
-use Rattle.nitro.specs.declared.tex.PaletteChoice.{PaletteChoice}
-use Rattle.nitro.proofs.Answers.{passed-on}
+use Rattle.places.specs.Sources.{Sources, sourcesOf}
+use Rattle.places.specs.declared.PaletteChoice.{PaletteChoice}
+use Rattle.places.proofs.Sources.{passed-on}
 use Rattle.decode.specs.Pictures.{texelCount, pictureLength, pictureBytes, ready, decoded, pictureOf}
 use Rattle.decode.proofs.Pictures.{length-picture, picture-found}
 use Rattle.text.specs.Put.{Room, Put}

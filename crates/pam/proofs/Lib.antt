@@ -4,4 +4,3 @@ pub mod Headers
 pub mod Images
 pub mod Limits
 pub mod Shows
-pub mod Spellings

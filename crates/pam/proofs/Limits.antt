@@ -8,15 +8,16 @@ use lib.ListN.{length, getD}
 use lib.Dec.{leb}
 use borrow.Author.Tests.{leb-true, leb-false}
 use Rattle.errors.specs.declared.Kind.{Kind}
-use Rattle.info_block.specs.Script.{Answer, short, fault, whole, run, outcomeOf}
+use Rattle.scripts.specs.Script.{Answer, short, fault, whole, run, outcomeOf}
 use Rattle.reading.specs.Tex.{Contents, readTex}
-use Rattle.nitro.specs.Calls.{entry, chosenOf, sourcesOf}
-use Rattle.nitro.specs.declared.tex.PaletteChoice.{PaletteChoice}
-use Rattle.nitro.specs.declared.tex.PaletteChoice.the-variants as choices
+use Rattle.nitro.specs.Calls.{entry}
+use Rattle.places.specs.Sources.{chosenOf, sourcesOf}
+use Rattle.places.specs.declared.PaletteChoice.{PaletteChoice}
+use Rattle.places.specs.declared.PaletteChoice.the-variants as choices
 use Rattle.nitro.proofs.Answers.{entry-out}
 use Rattle.reading.proofs.Sizes.{textures-few, palettes-few}
 use Rattle.decode.specs.Pictures.{pictureOf}
-use Rattle.pam.specs.Arguments.{capped}
+use Rattle.arguments.specs.Arguments.{capped}
 use Rattle.pam.specs.Pam.{pamOf, shownOutcome}
 
 abbrev pub cappedChoice : PaletteChoice → PaletteChoice

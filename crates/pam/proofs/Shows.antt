@@ -8,13 +8,13 @@ use lib.ListN.{length}
 use Rattle.io.specs.Counts.{Counts}
 use Rattle.util.specs.Outcome.{Outcome, result, refusal}
 use Rattle.errors.specs.Refusal.{refusalNumber, refusalReturned, refusalOutcome}
-use Rattle.errors.specs.Output.{writeOutcome, Writes}
+use Rattle.output.specs.Output.{writeOutcome, Writes}
 use Rattle.errors.specs.declared.Refusal.{Refusal}
 use Rattle.errors.proofs.Refusals.{refusal-not, refusal-any}
-use Rattle.errors.proofs.Outputs.{wrote-counts, writes-whole}
-use Rattle.info_block.specs.Script.{run}
+use Rattle.output.proofs.Outputs.{wrote-counts, writes-whole}
+use Rattle.scripts.specs.Script.{run}
 use Rattle.reading.specs.Tex.{readTex}
-use Rattle.nitro.specs.declared.tex.PaletteChoice.{PaletteChoice}
+use Rattle.places.specs.declared.PaletteChoice.{PaletteChoice}
 use Rattle.text.specs.Put.{Room, Put}
 use Rattle.text.proofs.Puts.{put-writes}
 use Rattle.listing.specs.Listing.{refusedLine, printed}

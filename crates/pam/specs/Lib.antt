@@ -1,3 +1,1 @@
-pub mod Arguments
-pub mod Digits
 pub mod Pam

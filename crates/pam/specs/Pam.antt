@@ -6,10 +6,10 @@ use lib.ListN.{length}
 use lib.Dec.{ltb}
 use Rattle.util.specs.Outcome.{Outcome, result, refusal, _>>=_}
 use Rattle.nds.specs.Params.{width, height}
-use Rattle.info_block.specs.Script.{Answer, run}
+use Rattle.scripts.specs.Script.{Answer, run}
 use Rattle.reading.specs.Tex.{Contents, readTex}
-use Rattle.nitro.specs.Calls.{sourcesOf}
-use Rattle.nitro.specs.declared.tex.PaletteChoice.{PaletteChoice}
+use Rattle.places.specs.Sources.{sourcesOf}
+use Rattle.places.specs.declared.PaletteChoice.{PaletteChoice}
 use Rattle.decode.specs.Pictures.{pictureOf}
 use Rattle.text.specs.Text.{ascii, decimal, line}
 use Rattle.listing.specs.Listing.{refusedLine, printed}

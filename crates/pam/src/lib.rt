@@ -1,13 +1,11 @@
 // A picture of a TEX0 block as a PAM image: Netpbm's format for pictures with alpha, which stock viewers and converters read.
-pub mod arguments;
-
-use decode::picture::picture;
+use decode::picture::picture_at;
 use errors::Counted;
 use listing::put_refused;
 use nds::texture_params::TextureParams;
-use nitro::tex::Located;
-use nitro::tex::PaletteChoice;
-use nitro::tex::locate;
+use places::Located;
+use places::PaletteChoice;
+use places::locate;
 use text::put;
 use text::put_field;
 use text::put_number;
@@ -17,9 +15,9 @@ ghost use mathlib.Core.List.{[], _∷_};
 ghost use lib.ListN.{length};
 ghost use Rattle.io.specs.Counts.{Counts};
 ghost use Rattle.util.specs.Outcome.{result};
-ghost use Rattle.errors.specs.Output.{Writes};
+ghost use Rattle.output.specs.Output.{Writes};
 ghost use Rattle.errors.specs.Refusal.{countedOutcome};
-ghost use Rattle.info_block.specs.Script.{run};
+ghost use Rattle.scripts.specs.Script.{run};
 ghost use Rattle.reading.specs.Tex.{readTex};
 ghost use Rattle.text.specs.Text.{decimal, line};
 ghost use Rattle.text.specs.Put.{Room, Put};
@@ -97,7 +95,7 @@ pub fn pam(block: &[u8], n: usize, choice: PaletteChoice, out: &mut [u8]) -> Cou
         Located::Found(places) => {
             let params = places.params;
             let at = least(header_len(params), out.len());
-            match picture(block, n, choice, &mut out[at..]) {
+            match picture_at(block, places, &mut out[at..]) {
                 Counted::Refused(refusal) => Counted::Refused(refusal),
                 Counted::Count(len) => {
                     let whole = put_header(out, 0, params) + len;

@@ -1,14 +1,14 @@
 // Writes a picture of a TEX0 block to its standard output, as a PAM image. The arguments are the block's file, the texture's number, and the
 // palette's number or `-` for no palette. A refusal is a line on standard error.
+use arguments::Parsed;
+use arguments::ParsedChoice;
+use arguments::parse_choice;
+use arguments::parse_number;
 use libc::STDERR_FILENO;
 use libc::STDOUT_FILENO;
-use nitro::tex::PaletteChoice;
 use pam::MAX_BLOCK;
 use pam::MAX_PAM;
-use pam::arguments::Parsed;
-use pam::arguments::ParsedChoice;
-use pam::arguments::parse_choice;
-use pam::arguments::parse_number;
+use places::PaletteChoice;
 ghost use Rattle.io.specs.Counts.{Counts};
 
 fn print_usage() {

@@ -9,8 +9,8 @@ use lib.ListN.{length, take, drop, set, getD, length-append, length-drop}
 use lib.Seq.{take-suc, take-all, drop-drop, drop-length, length-take-le, sets, sets-eq, length-sets}
 use borrow.Rule.Slice.PartMut.{midOf, postOf, putMid, post-is}
 use Rattle.util.specs.Outcome.{Outcome, result}
-use Rattle.errors.specs.Output.{Writes}
-use Rattle.errors.proofs.Outputs.{sets-append, Wrote, wrote-text, writes-fits, writes-whole}
+use Rattle.output.specs.Output.{Writes}
+use Rattle.output.proofs.Outputs.{sets-append, Wrote, wrote-text, writes-fits, writes-whole}
 use Rattle.text.specs.Text.{decimal}
 use Rattle.text.specs.Put.{Room, Put}
 

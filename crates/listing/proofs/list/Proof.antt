@@ -6,7 +6,7 @@ use native.Mathlib.Omega.{arith}
 use lib.ListN.{length, take}
 use denote.Ref.{now}
 use borrow.Author.Needs.{needs}
-use Rattle.errors.proofs.Outputs.{writes-short}
+use Rattle.output.proofs.Outputs.{writes-short}
 use Rattle.listing.specs.Listing.{listingText}
 use Rattle.text.specs.Put.{Room}
 use Rattle.listing.proofs.Bounds.{listing-fits}

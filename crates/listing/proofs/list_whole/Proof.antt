@@ -7,7 +7,7 @@ use borrow.Author.Needs.{needs}
 use Rattle.util.specs.Outcome.{result}
 use Rattle.errors.specs.Refusal.{countedOutcome}
 use Rattle.errors.proofs.Refusals.{refusal-not}
-use Rattle.errors.proofs.Outputs.{Wrote, wrote-counts, writes-whole}
+use Rattle.output.proofs.Outputs.{Wrote, wrote-counts, writes-whole}
 use Rattle.listing.specs.Listing.{listingText}
 use Rattle.listing.proofs.Bounds.{listing-fits}
 use Rattle.listing.proofs.list_whole.Statement.{statement}

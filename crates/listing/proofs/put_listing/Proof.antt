@@ -8,8 +8,9 @@ use denote.Ref.{now}
 use borrow.Author.Needs.{needs}
 use Rattle.errors.specs.Refusal.{refusalNumber, refusalReturned}
 use Rattle.errors.specs.declared.Kind.the-variants.{Texture, Palette}
-use Rattle.info_block.specs.Script.{run}
+use Rattle.scripts.specs.Script.{run}
 use Rattle.reading.specs.Tex.{readTex}
+use Rattle.reading.specs.Layouts.{LaidOut}
 use Rattle.listing.specs.Listing.{listingText, refusedLine}
 use Rattle.listing.specs.Lists.{listOf}
 use Rattle.text.proofs.Puts.{put-then, room-first, room-then}
@@ -24,15 +25,20 @@ long c = too-long _ (sym (c .before .is-too-long .ensures) ∙ c .if1 .taken)
 short-enough : (c : tie.Else1) → ltb 65536 (length (now (c .before .before .before .before .args .input))) ≡ false
 short-enough c = sym (c .before .is-too-long .ensures) ∙ c .if1 .left
 
-lists : (c : tie.After-textures)
+laid : (c : tie.After-layout)
+    → LaidOut (now (c .before .before .before .before .before .before .before .args .input)) (c .layout .given .0 .0)
+laid c = record { is = rw (c .layout .given .1) at (c .before .before .lay-out .ensures) }
+
+lists : (c : tie.After-layout)
     → let b = now (c .before .before .before .before .before .before .before .args .input) in
-    listingText b ≡ listOf Texture (run readTex b) (c .textures .given .0 .0) ++ listOf Palette (run readTex b) (c .textures .given .0 .1 .0)
-lists c = listing-lists _ (short-enough (c .before .before .before)) _ _ (rw (c .textures .given .1) at (c .before .before .read-tex .ensures))
+    let l = c .layout .given .0 .0 in
+    listingText b ≡ listOf Texture (run readTex b) (l .textures) ++ listOf Palette (run readTex b) (l .palettes)
+lists c = listing-lists _ (short-enough (c .before .before .before)) (laid c)
 
 refused : (c : tie.After-refusal)
     → let b = now (c .before .before .before .before .before .before .before .args .input) in
     listingText b ≡ refusedLine (refusalNumber (c .refusal .given .0 .0)) (refusalReturned (c .refusal .given .0 .0))
-refused c = listing-refused _ (short-enough (c .before .before .before)) (c .refusal .given .0 .0) (rw (c .refusal .given .1) at (c .before .before .read-tex .ensures))
+refused c = listing-refused _ (short-enough (c .before .before .before)) (c .refusal .given .0 .0) (rw (c .refusal .given .1) at (c .before .before .lay-out .ensures))
 
 is-too-long-requires : tie.Need-is-too-long-requires
 is-too-long-requires c κs = search needs
@@ -46,22 +52,22 @@ same-length c = search needs
 returns : tie.Need-returns
 returns c = rw (long (c .before .before .before .before)) (c .before .before .put-refused .ensures)
 
-read-tex-requires : tie.Need-read-tex-requires
-read-tex-requires c κs = search needs
+lay-out-requires : tie.Need-lay-out-requires
+lay-out-requires c κs = search needs
 
-enum-known-textures : tie.Need-enum-known-textures
-enum-known-textures c = search needs
+enum-known-layout : tie.Need-enum-known-layout
+enum-known-layout c = search needs
 
 put-list-requires : tie.Need-put-list-requires
 put-list-requires c κs =
     let told = c .before .before in
-    room-first _ _ (rw (lists told) at (told .before .before .before .before .before .before .before .pre))
+    (laid told, room-first _ _ (rw (lists told) at (told .before .before .before .before .before .before .before .pre)))
 
 put-list-requires-2 : tie.Need-put-list-requires-2
 put-list-requires-2 c κs =
     let first = c .before .before .before in
     let told = first .before .before .before in
-    room-then (first .put-list .ensures) (rw (lists told) at (told .before .before .before .before .before .before .before .pre))
+    (laid told, room-then (first .put-list .ensures) (rw (lists told) at (told .before .before .before .before .before .before .before .pre)))
 
 enum-known-refusal : tie.Need-enum-known-refusal
 enum-known-refusal c = search needs
@@ -103,8 +109,8 @@ put-listing-spec =
     put-refused-requires
     same-length
     returns
-    read-tex-requires
-    enum-known-textures
+    lay-out-requires
+    enum-known-layout
     put-list-requires
     put-list-requires-2
     enum-known-refusal

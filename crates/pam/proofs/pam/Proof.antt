@@ -8,13 +8,15 @@ use denote.Ref.{now}
 use borrow.Author.Needs.{needs}
 use borrow.Rule.Slice.PartMut.{midOf}
 use Rattle.util.specs.Outcome.{Outcome, result}
-use Rattle.errors.specs.Output.{Writes}
-use Rattle.errors.proofs.Outputs.{writes-refusal}
-use Rattle.info_block.specs.Script.{Answer, run}
+use Rattle.errors.specs.Refusal.{countedOutcome}
+use Rattle.output.specs.Output.{Writes}
+use Rattle.output.proofs.Outputs.{writes-refusal}
+use Rattle.scripts.specs.Script.{Answer, run}
 use Rattle.reading.specs.Tex.{Contents, readTex}
-use Rattle.nitro.specs.Calls.{sourcesOf, sourcesAt, locatedOutcome}
-use Rattle.nitro.proofs.Answers.{located-sources, located-refused}
+use Rattle.places.specs.Sources.{sourcesOf, sourcesAt, locatedOutcome}
+use Rattle.places.proofs.Sources.{located-sources, located-refused}
 use Rattle.decode.specs.Pictures.{pictureOf}
+use Rattle.decode.proofs.Pictures.{picture-found}
 use Rattle.pam.specs.Pam.{headerText, pamOf}
 use Rattle.pam.proofs.Images.{headed, image-refused, image-found, picture-some, Behind, behind}
 use Rattle.pam.proofs.Images.{headed-refused, header-room, headed-count, headed-written}
@@ -22,44 +24,49 @@ use Rattle.pam.proofs.pam.Statement.{statement}
 use Rattle.pam.proofs.pam.Tie as tie
 
 -- the places from which the picture's call came
-abbrev located : tie.After-picture → tie.After-places
+abbrev located : tie.After-picture-at → tie.After-places
 located c = c .before .before .before .before .before .before
 
-abbrev start : tie.After-picture → tie.Start
+abbrev start : tie.After-picture-at → tie.Start
 start c = located c .before .before .before .before .before
 
-abbrev answer : tie.After-picture → Answer Contents
+abbrev answer : tie.After-picture-at → Answer Contents
 answer c = run readTex (now (start c .args .block))
 
-abbrev made : tie.After-picture → Outcome (List ℕ)
+abbrev made : tie.After-picture-at → Outcome (List ℕ)
 made c = pictureOf (start c .args .n) (start c .args .choice) (answer c)
 
-abbrev header : tie.After-picture → List ℕ
+abbrev header : tie.After-picture-at → List ℕ
 header c = headerText (located c .places .given .0 .0 .params .0)
 
-abbrev entry : tie.After-picture → List ℕ
+abbrev entry : tie.After-picture-at → List ℕ
 entry c = now (start c .args .out)
 
-abbrev at : tie.After-picture → ℕ
+abbrev at : tie.After-picture-at → ℕ
 at c = c .before .before .least .result
 
 -- what was located, and where the picture goes
-found : (c : tie.After-picture)
+found : (c : tie.After-picture-at)
     → let s = start c in
     result (sourcesAt (now (s .args .block)) (located c .places .given .0 .0)) ≡ sourcesOf (s .args .n) (s .args .choice) (answer c)
 found c = located-sources _ _ _ (ap locatedOutcome (sym (located c .places .given .1)) ∙ located c .before .before .locate .ensures)
 
-image : (c : tie.After-picture) → pamOf (start c .args .n) (start c .args .choice) (answer c) ≡ headed (header c) (made c)
+image : (c : tie.After-picture-at) → pamOf (start c .args .n) (start c .args .choice) (answer c) ≡ headed (header c) (made c)
 image c = image-found _ _ _ (found c)
 
-place : (c : tie.After-picture) → at c ≡ min (length (header c)) (length (entry c))
+place : (c : tie.After-picture-at) → at c ≡ min (length (header c)) (length (entry c))
 place c = c .before .before .least .ensures ∙ ap (λ (n : ℕ). min n (length (entry c))) (c .before .before .before .header-len .ensures)
+
+-- what is written there is the picture
+is-picture : (c : tie.After-picture-at) {o : Outcome ℕ} → countedOutcome (c .picture-at .result) ≡ o
+    → Writes (made c) (midOf (at c) (length (entry c) - at c) (entry c)) o (c .picture-at .last .1 .1 .0)
+is-picture c e = rw (picture-found _ _ _ (found c), ← e) (c .picture-at .ensures)
 
 -- where it was written
 told : (c : tie.After-len)
     → let p = c .before .before .before .before in
-    Writes (made p) (midOf (at p) (length (entry p) - at p) (entry p)) (result (c .len .given .0 .0)) (p .picture .last .1 .1 .1 .0)
-told c = rw (c .len .given .1) at (c .before .before .before .before .picture .ensures)
+    Writes (made p) (midOf (at p) (length (entry p) - at p) (entry p)) (result (c .len .given .0 .0)) (p .picture-at .last .1 .1 .0)
+told c = is-picture (c .before .before .before .before) (ap countedOutcome (c .len .given .1))
 
 written : (c : tie.After-len) → let p = c .before .before .before .before in Behind (header p) (entry p) (made p) (place p) (c .len .given .0 .0)
 written c = let p = c .before .before .before .before in behind (header p) (entry p) (made p) (place p) (told c)
@@ -82,17 +89,17 @@ header-len-requires c κs = search needs
 least-requires : tie.Need-least-requires
 least-requires c κs = search needs
 
-sub-picture : tie.Need-sub-picture
-sub-picture c = search needs
+sub-picture-at : tie.Need-sub-picture-at
+sub-picture-at c = search needs
 
-part-picture-start : tie.Need-part-picture-start
-part-picture-start c = search needs
+part-picture-at-start : tie.Need-part-picture-at-start
+part-picture-at-start c = search needs
 
-part-picture-end : tie.Need-part-picture-end
-part-picture-end c = search needs
+part-picture-at-end : tie.Need-part-picture-at-end
+part-picture-at-end c = search needs
 
-picture-requires : tie.Need-picture-requires
-picture-requires c κs = search needs
+picture-at-requires : tie.Need-picture-at-requires
+picture-at-requires c κs = search needs
 
 enum-known-refusal-2 : tie.Need-enum-known-refusal-2
 enum-known-refusal-2 c = search needs
@@ -126,7 +133,7 @@ returns-2 : tie.Need-returns-2
 returns-2 c =
     let r = c .before .refusal2 .given in
     let p = c .before .before .before .before .before in
-    rw (image p) (headed-refused (header p) (entry p) (made p) (place p) (r .0 .0) (rw (r .1) at (p .picture .ensures)))
+    rw (image p) (headed-refused (header p) (entry p) (made p) (place p) (r .0 .0) (is-picture p (ap countedOutcome (r .1))))
 
 same-length-2 : tie.Need-same-length-2
 same-length-2 c = search needs
@@ -146,10 +153,10 @@ pam-spec =
     enum-known-places
     header-len-requires
     least-requires
-    sub-picture
-    part-picture-start
-    part-picture-end
-    picture-requires
+    sub-picture-at
+    part-picture-at-start
+    part-picture-at-end
+    picture-at-requires
     enum-known-refusal-2
     enum-known-len
     put-header-requires

@@ -9,10 +9,10 @@ use denote.Ref.{now}
 use borrow.Author.Needs.{needs}
 use Rattle.util.specs.Outcome.{Outcome, result, refusal}
 use Rattle.errors.specs.Refusal.{countedOutcome}
-use Rattle.errors.specs.Output.{Writes}
+use Rattle.output.specs.Output.{Writes}
 use Rattle.errors.specs.declared.Counted.{Counted}
-use Rattle.errors.proofs.Outputs.{refused-keeps}
-use Rattle.info_block.specs.Script.{run}
+use Rattle.output.proofs.Outputs.{refused-keeps}
+use Rattle.scripts.specs.Script.{run}
 use Rattle.reading.specs.Tex.{readTex}
 use Rattle.pam.specs.Pam.{pamOf, shownOutcome}
 use Rattle.pam.proofs.Bounds.{refused-room, pam-fits}

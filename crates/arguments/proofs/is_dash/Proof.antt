@@ -1,8 +1,8 @@
--- `pam::arguments::is_dash` meets its contract, by the text's length. Assumes nothing.
+-- `arguments::is_dash` meets its contract, by the text's length. Assumes nothing.
 use borrow.Author.Needs.{needs}
-use Rattle.pam.proofs.Spellings.{one-byte, not-one-byte}
-use Rattle.pam.proofs.arguments.is_dash.Statement.{statement}
-use Rattle.pam.proofs.arguments.is_dash.Tie as tie
+use Rattle.arguments.proofs.Spellings.{one-byte, not-one-byte}
+use Rattle.arguments.proofs.is_dash.Statement.{statement}
+use Rattle.arguments.proofs.is_dash.Tie as tie
 
 shared-slice-read-result : tie.Need-shared-slice-read-result
 shared-slice-read-result c = search needs

@@ -1,7 +1,7 @@
--- `pam::arguments::is_digit` meets its contract, by its first test. Assumes nothing.
+-- `arguments::is_digit` meets its contract, by its first test. Assumes nothing.
 use borrow.Author.Tests.{le-leb, lt-leb}
-use Rattle.pam.proofs.arguments.is_digit.Statement.{statement}
-use Rattle.pam.proofs.arguments.is_digit.Tie as tie
+use Rattle.arguments.proofs.is_digit.Statement.{statement}
+use Rattle.arguments.proofs.is_digit.Tie as tie
 
 returns : tie.Need-returns
 returns c = rw (le-leb _ _ (c .if1 .taken))

@@ -9,12 +9,12 @@ use lib.ListN.{length, getD, drop, length-append}
 use lib.Seq.{drop-cons}
 use lib.Dec.{ltb, leb, eqb}
 use borrow.Author.Tests.{ltb-true, ltb-false, leb-true, le-leb}
-use Rattle.nitro.specs.declared.tex.PaletteChoice.the-variants as choices
+use Rattle.places.specs.declared.PaletteChoice.the-variants as choices
 use Rattle.text.specs.Text.{decimalBelow, decimal}
-use Rattle.pam.specs.Arguments.{isDigit, allDigits, withDigit, spelledFrom, capped, numberOf, isDash, choiceBy, choiceOf}
-use Rattle.pam.specs.declared.arguments.Parsed.{Parsed}
-use Rattle.pam.specs.declared.arguments.Parsed.the-variants.{Number, Malformed}
-use Rattle.pam.specs.declared.arguments.ParsedChoice.the-variants as parsedChoice
+use Rattle.arguments.specs.Arguments.{isDigit, allDigits, withDigit, spelledFrom, capped, numberOf, isDash, choiceBy, choiceOf}
+use Rattle.arguments.specs.declared.Parsed.{Parsed}
+use Rattle.arguments.specs.declared.Parsed.the-variants.{Number, Malformed}
+use Rattle.arguments.specs.declared.ParsedChoice.the-variants as parsedChoice
 
 -- the text `-`
 pub one-byte : (text : List ℕ) → length text ≡ 1 → eqb (getD text 0 0) 45 ≡ isDash text

@@ -1,10 +1,10 @@
--- `pam::arguments::parse_choice` meets its contract, by what the text is. Assumes nothing.
+-- `arguments::parse_choice` meets its contract, by what the text is. Assumes nothing.
 use mathlib.Core.Path.{sym, _∙_, ap}
 use borrow.Author.Needs.{needs}
-use Rattle.pam.specs.Arguments.{choiceBy}
-use Rattle.pam.proofs.Spellings.{no-palette, by-number}
-use Rattle.pam.proofs.arguments.parse_choice.Statement.{statement}
-use Rattle.pam.proofs.arguments.parse_choice.Tie as tie
+use Rattle.arguments.specs.Arguments.{choiceBy}
+use Rattle.arguments.proofs.Spellings.{no-palette, by-number}
+use Rattle.arguments.proofs.parse_choice.Statement.{statement}
+use Rattle.arguments.proofs.parse_choice.Tie as tie
 
 is-dash-requires : tie.Need-is-dash-requires
 is-dash-requires c κs = search needs

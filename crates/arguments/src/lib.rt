@@ -1,8 +1,8 @@
 // The arguments of the program that shows a picture: numbers, and the choice of a palette.
-use nitro::tex::PaletteChoice;
+use places::PaletteChoice;
 ghost use mathlib.Core.Path.{_≡_};
-ghost use Rattle.pam.specs.Arguments as Arguments;
-ghost use Rattle.pam.specs.Digits.{Digit};
+ghost use Rattle.arguments.specs.Arguments as Arguments;
+ghost use Rattle.arguments.specs.Digits.{Digit};
 
 // A number above every count of a block. An argument that spells a greater one is taken for it: both are refused alike.
 const MAX_NUMBER: usize = 65535;

@@ -1,4 +1,4 @@
--- `pam::arguments::parse_number` meets its contract: what the text comes to is what its rest comes to behind the digits that were read.
+-- `arguments::parse_number` meets its contract: what the text comes to is what its rest comes to behind the digits that were read.
 -- Assumes nothing.
 use Prim.Native.Nat.{ℕ, _-_, _≤_}
 use mathlib.Core.Path.{_≡_, sym, _∙_}
@@ -7,10 +7,10 @@ use mathlib.Core.List.{List}
 use native.Mathlib.Omega.{arith}
 use lib.ListN.{length, getD, drop, drop-of-length-le}
 use borrow.Author.Needs.{needs}
-use Rattle.pam.specs.Arguments.{isDigit, numberOf}
-use Rattle.pam.proofs.Spellings.{numberFrom, none-spelled, some-spelled, digit-within, no-digit, one-digit, all-read}
-use Rattle.pam.proofs.arguments.parse_number.Statement.{statement}
-use Rattle.pam.proofs.arguments.parse_number.Tie as tie
+use Rattle.arguments.specs.Arguments.{isDigit, numberOf}
+use Rattle.arguments.proofs.Spellings.{numberFrom, none-spelled, some-spelled, digit-within, no-digit, one-digit, all-read}
+use Rattle.arguments.proofs.parse_number.Statement.{statement}
+use Rattle.arguments.proofs.parse_number.Tie as tie
 
 abbrev Inv-loop : tie.InvT-loop
 Inv-loop text n₀ i₀ n i = (i ≤ length text) × (n ≤ 65535) × (numberOf text ≡ numberFrom n (drop i text))

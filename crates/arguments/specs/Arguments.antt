@@ -3,11 +3,11 @@ use Prim.Native.Nat.{ℕ, _+_, _-_, _*_, min}
 use mathlib.Core.Bool.{Bool, true, false, cond, _&&_}
 use mathlib.Core.List.{List, [], _∷_}
 use lib.Dec.{leb, eqb}
-use Rattle.nitro.specs.declared.tex.PaletteChoice.the-variants as choices
-use Rattle.pam.specs.declared.arguments.Parsed.{Parsed}
-use Rattle.pam.specs.declared.arguments.Parsed.the-variants as parsed
-use Rattle.pam.specs.declared.arguments.ParsedChoice.{ParsedChoice}
-use Rattle.pam.specs.declared.arguments.ParsedChoice.the-variants as parsedChoice
+use Rattle.places.specs.declared.PaletteChoice.the-variants as choices
+use Rattle.arguments.specs.declared.Parsed.{Parsed}
+use Rattle.arguments.specs.declared.Parsed.the-variants as parsed
+use Rattle.arguments.specs.declared.ParsedChoice.{ParsedChoice}
+use Rattle.arguments.specs.declared.ParsedChoice.the-variants as parsedChoice
 
 -- The bytes of the digits 0 to 9 are 48 to 57.
 abbrev pub isDigit : ℕ → Bool
