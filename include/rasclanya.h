@@ -1,5 +1,5 @@
 /* Reading TEX0 blocks (Nintendo DS textures) and decoding their textures to RGBA pictures: the C interface of the archive libcapi.a, for
-   x86-64 Linux. `rt staticlib capi` writes the archive to target/staticlib/.
+   x86-64 Linux. tools/archive writes the archive to target/staticlib/.
 
    Rules that hold for every call:
 

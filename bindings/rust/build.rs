@@ -1,5 +1,5 @@
 //! Links the static library `libcapi.a`: from the directory that the variable RASCLANYA_LIB_DIR names, or else from the repository's
-//! `target/staticlib`, to which `rt staticlib capi` writes it where it is not there.
+//! `target/staticlib`, to which `tools/archive` writes it where it is not there.
 
 use std::env;
 use std::path::{Path, PathBuf};
@@ -25,12 +25,12 @@ fn repository() -> PathBuf {
     }
 }
 
-/// Proves the library and writes the archive.
+/// Proves the crates with the calls and writes the archive.
 fn make_archive(root: &Path) {
-    match Command::new("rt").args(["staticlib", "capi"]).current_dir(root).status() {
+    match Command::new(root.join("tools").join("archive")).status() {
         Ok(status) if status.success() => {}
-        Ok(status) => stop(&format!("`rt staticlib capi` failed: {status}")),
-        Err(error) => stop(&format!("`rt staticlib capi` cannot be run: {error}; {DIR_VARIABLE} can name a directory with {ARCHIVE}")),
+        Ok(status) => stop(&format!("`tools/archive` failed: {status}")),
+        Err(error) => stop(&format!("`tools/archive` cannot be run: {error}; {DIR_VARIABLE} can name a directory with {ARCHIVE}")),
     }
 }
 

@@ -11,17 +11,18 @@ use Rattle.nds.specs.declared.texture_formats.Alpha.the-variants as alpha
 use Rattle.nds.specs.declared.wrap.Wrap.{Wrap}
 use Rattle.nds.specs.declared.wrap.Wrap.the-variants as wrap
 use Rattle.errors.specs.declared.Kind.{Kind}
-use Rattle.info_block.specs.Script.{run}
+use Rattle.scripts.specs.Script.{run}
 use Rattle.reading.specs.Tex.{readTex}
-use Rattle.nitro.specs.Rows.{placeOf, rowsOf}
-use Rattle.nitro.specs.Calls.{Counts, readingOf, textureOf, paletteOf, data1Of, data2Of, palBlockOf, placesOf, palPlaceOf}
+use Rattle.rows.specs.Rows.{placeOf, rowsOf}
+use Rattle.nitro.specs.Calls.{Counts, readingOf, textureOf, paletteOf, data1Of, data2Of, palBlockOf}
+use Rattle.places.specs.Sources.{placesOf, palPlaceOf}
 use Rattle.nitro.specs.declared.tex.TextureRecord.{TextureRecord}
 use Rattle.nitro.specs.declared.tex.PaletteRecord.{PaletteRecord}
-use Rattle.nitro.specs.declared.tex.PaletteChoice.{PaletteChoice}
-use Rattle.nitro.specs.declared.tex.PaletteChoice.the-variants as choice
-use Rattle.nitro.specs.declared.tex.PaletteOff.{PaletteOff}
-use Rattle.nitro.specs.declared.tex.PaletteOff.the-variants as off
-use Rattle.nitro.specs.declared.tex.Place.{Place}
+use Rattle.places.specs.declared.PaletteChoice.{PaletteChoice}
+use Rattle.places.specs.declared.PaletteChoice.the-variants as choice
+use Rattle.places.specs.declared.PaletteOff.{PaletteOff}
+use Rattle.places.specs.declared.PaletteOff.the-variants as off
+use Rattle.places.specs.declared.Place.{Place}
 use Rattle.decode.specs.Pictures.{sources, decoded, pictureOf}
 
 -- A number that is told as it is.

@@ -3,13 +3,13 @@ use errors::Counted;
 use errors::Refusal;
 use nds::texture_formats::Alpha;
 use nds::wrap::Wrap;
-use nitro::tex::PaletteChoice;
-use nitro::tex::PaletteOff;
 use nitro::tex::Reading;
+use places::PaletteChoice;
+use places::PaletteOff;
 ghost use mathlib.Core.Path.{_≡_};
 ghost use Rattle.errors.specs.Refusal.{refusalNumber, refusalReturned, countedOutcome};
 ghost use Rattle.nitro.specs.Calls.{readingOutcome};
-ghost use Rattle.nitro.specs.Rows.{placeOf};
+ghost use Rattle.rows.specs.Rows.{placeOf};
 ghost use Rattle.told.specs.Told as Told;
 
 pub fn wrap_number(wrap: Wrap) -> u32

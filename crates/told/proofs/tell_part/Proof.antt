@@ -1,7 +1,7 @@
 -- `told::tell_part` meets its contract. Assumes nothing.
 use mathlib.Core.Path.{refl}
 use borrow.Author.Tests.{eq-eqb, ne-eqb}
-use Rattle.nitro.specs.Rows.{placeOf}
+use Rattle.rows.specs.Rows.{placeOf}
 use Rattle.told.proofs.tell_part.Statement.{statement}
 use Rattle.told.proofs.tell_part.Tie as tie
 
