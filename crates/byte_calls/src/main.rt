@@ -1,24 +1,22 @@
 // Writes what the calls of the byte layer answer at their limits, a line a call.
-use libc::STDOUT_FILENO;
+use cursor::nth_u16;
+use cursor::part_at;
+use report::decimal;
+use report::text;
 use util::bits::bits_u8;
 use util::bits::bits_u16;
 use util::bits::bits_u32;
 use util::cur::Needed;
 use util::cur::Peeked;
 use util::cur::Taken;
-use util::cur::nth_u16;
-use util::cur::part_at;
 use util::cur::peek_u8;
 use util::cur::peek_u16;
 use util::cur::peek_u32;
 use util::cur::take_at;
 
-fn text(bytes: &[u8]) {
-    io::write_all(STDOUT_FILENO, bytes);
-}
-
+// Writes a number and the end of the line.
 fn number(n: u64) {
-    io::print_decimal(STDOUT_FILENO, n);
+    decimal(n);
     text(b"\n");
 }
 
@@ -31,16 +29,19 @@ fn short(needed: Needed) {
     number(needed.low as u64);
 }
 
+// Writes bits lo to hi - 1 of 8.
 fn fields8(x: u8, lo: u32, hi: u32) {
     text(b"bits_u8 ");
     number(bits_u8(x, lo, hi) as u64);
 }
 
+// The same of 16.
 fn fields16(x: u16, lo: u32, hi: u32) {
     text(b"bits_u16 ");
     number(bits_u16(x, lo, hi) as u64);
 }
 
+// The same of 32.
 fn fields32(x: u32, lo: u32, hi: u32) {
     text(b"bits_u32 ");
     number(bits_u32(x, lo, hi) as u64);
@@ -61,6 +62,7 @@ fn taken(buf: &[u8], pos: usize, n: usize) {
     text(b"]\n");
 }
 
+// Writes the answer of a call that reads a number.
 fn peeked(p: Peeked) {
     text(b"peek ");
     match p {
@@ -69,6 +71,7 @@ fn peeked(p: Peeked) {
     }
 }
 
+// Bit fields, also empty ones and ones that exceed the number.
 fn bit_fields() {
     fields8(0xe5, 0, 5);
     fields8(0xe5, 5, 8);
@@ -91,6 +94,7 @@ fn bit_fields() {
     fields32(0xabcdef00, 4294967295, 0);
 }
 
+// Takes at the buffer's limits.
 fn takes(buf: &[u8]) {
     taken(buf, 0, 0);
     taken(buf, 0, 8);
@@ -107,6 +111,7 @@ fn takes(buf: &[u8]) {
     taken(buf, 18446744073709551615, 18446744073709551615);
 }
 
+// Numbers at the buffer's limits.
 fn numbers(buf: &[u8]) {
     peeked(peek_u8(buf, 0));
     peeked(peek_u8(buf, 7));
@@ -120,6 +125,7 @@ fn numbers(buf: &[u8]) {
     peeked(peek_u32(buf, 18446744073709551612));
 }
 
+// The same for numbers that are counted from a position on.
 fn nth_numbers(buf: &[u8]) {
     peeked(nth_u16(buf, 0, 0));
     peeked(nth_u16(buf, 0, 3));
@@ -135,6 +141,7 @@ fn nth_numbers(buf: &[u8]) {
     peeked(nth_u16(buf, 18446744073709551615, 4294967295));
 }
 
+// Runs every call.
 fn main() {
     let buf = b"TEX0abcd";
     bit_fields();

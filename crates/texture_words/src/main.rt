@@ -1,8 +1,10 @@
 // Writes what the readers say of each word of a list, a line a word.
 use libc::STDOUT_FILENO;
-use nds::texture_formats::Alpha;
 use nds::texture_params::TextureParams;
-use nds::wrap::Wrap;
+use report::alpha;
+use report::decimal;
+use report::text;
+use report::wrap;
 
 // Document 01's words, each single bit, each format with and without bit 29, each set of repeat and mirror bits, and some of no
 // particular kind.
@@ -87,31 +89,13 @@ const WORDS: [u32; 78] = [
     0x78e5_1061,
 ];
 
-fn text(bytes: &[u8]) {
-    io::write_all(STDOUT_FILENO, bytes);
-}
-
+// Writes a label and a number.
 fn number(label: &[u8], n: u64) {
     text(label);
-    io::print_decimal(STDOUT_FILENO, n);
+    decimal(n);
 }
 
-fn wrap(w: Wrap) {
-    match w {
-        Wrap::Clamp => text(b" clamp"),
-        Wrap::Repeat => text(b" repeat"),
-        Wrap::Mirror => text(b" mirror"),
-    }
-}
-
-fn alpha(a: Alpha) {
-    match a {
-        Alpha::Opaque => text(b" alpha opaque"),
-        Alpha::Transparent => text(b" alpha transparent"),
-        Alpha::Translucent => text(b" alpha translucent"),
-    }
-}
-
+// Writes the line of a word.
 fn show(params: TextureParams) {
     io::print_hex(STDOUT_FILENO, params.0 as u64, 8);
     number(b" offset ", params.offset() as u64);
@@ -133,10 +117,12 @@ fn show(params: TextureParams) {
     number(b" palette ", desc.requires_palette as u64);
     number(b" data ", params.byte_len() as u64);
     number(b" ", params.byte_len2() as u64);
+    text(b" alpha");
     alpha(params.alpha_type());
     text(b"\n");
 }
 
+// Writes the line of each word.
 fn main() {
     let mut i = 0;
     while i < WORDS.len() {
