@@ -70,10 +70,10 @@ fn quad_of(word: u32) -> [u8; 4]
     ensures { λ r. ⌜ r ≡ Words.quadOf word ⌝ }
 {
     [
-        (word % 256) as u8,
-        (word / 256 % 256) as u8,
-        (word / 65536 % 256) as u8,
-        (word / 16777216 % 256) as u8,
+        (word & 255) as u8,
+        ((word >> 8) & 255) as u8,
+        ((word >> 16) & 255) as u8,
+        ((word >> 24) & 255) as u8,
     ]
 }
 
