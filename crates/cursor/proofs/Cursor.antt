@@ -1,11 +1,12 @@
 -- What the walks over a cursor share: its type, and what it owns beside its slice.
 --     Bytes κ, Cursor κ, Lent κ     `&'a [u8]`, `Cur<'a>`, and `Cur<'a>` behind a `&mut`, κ being 'a
 --     slice-of        the machine value of a slice
+--     made, made-typed     a cursor over a slice, at a position; its machine value has the struct's MIR type
 --     own-made        what a slice owns gives what a cursor over it owns, at any position, and is kept
 --     own-buf         what a cursor owns gives what its slice owns, and is kept: both are Copy
 --     own-moved       what a cursor owns is what it owns at another position
 --     lies-in, room-of     a local that holds a cursor can be lent, and once it is back, it is freed
---     gives-buf       `own-buf`, as a step of a walk
+--     gives-cursor, gives-buf     `own-made` and `own-buf`, as steps of a walk
 --     opens-cursor, closes-cursor     the borrow of a cursor that is lent is opened, and closed at another position
 -- The laws take `Given`. The rest assumes nothing.
 use mathlib.Core.Path.{_≡_, refl}
@@ -32,7 +33,7 @@ use denote.Plain.{uint-makes}
 use denote.Builtin.{u8, usize}
 use denote.Ref.{RefT, NamedLft}
 use denote.Signature.{Slot, plain, namedLft}
-use denote.Slice.{sliceVal, ShrSlice, shr-slice-copy}
+use denote.Slice.{sliceVal, ShrSlice, shr-slice-copy, shr-slice-lawful}
 use denote.Steps.{nothing, owned, peeks, opens, closes}
 use denote.Struct.Declared.{Declared}
 use denote.Struct.Laws as LL
@@ -45,6 +46,9 @@ use Rattle.cursor.proofs.Cur.Laws as T′
 
 abbrev pub slice-of : RefT (List ℕ) → Val
 slice-of s = sliceVal (s .ptr) (length (s .now))
+
+abbrev pub made : RefT (List ℕ) → ℕ → Cur
+made s pos = record { buf = s; pos = pos }
 
 -- `Cur<'a>` as the referent's place in a signature of two lifetimes
 abbrev pub lent : Slot 2
@@ -81,16 +85,19 @@ module _ (κ : Lft) where
     cursor-typed ℓ c w is = LL.lawful (T.the-type (record { mir = ℓ; lft = κ })) (T′.the-laws (record { mir = ℓ; lft = κ })) 𝓤 H A W .typed c
         (w ∷ []) is .0
 
+    pub made-typed : (ℓ : Lifetime) (s : RefT (List ℕ)) (pos : ℕ) → Is Bytes s (slice-of s ∷ []) → pos < 2 ^ 64
+        → Holds (hasTy (T′.mir ℓ) (T′.lowered (made s pos))) × WT (T′.lowered (made s pos))
+    made-typed ℓ s pos is fits =
+        (tt, (shr-slice-lawful 𝓤 H A W (named 0) κ u8 .typed s (slice-of s ∷ []) is .0 .1, (record { fits = fits }, tt)))
+
     pub own-made : (s : RefT (List ℕ)) (pos : ℕ) → pos < 2 ^ 64 → ent 𝓤 (sem 𝓤 H A (Bytes .own s (slice-of s ∷ [])))
-        (sep 𝓤 (sem 𝓤 H A (Cursor .own (record { buf = s; pos = pos }) (T′.lowered (record { buf = s; pos = pos }) ∷ [])))
-        (sem 𝓤 H A (Bytes .own s (slice-of s ∷ []))))
+        (sep 𝓤 (sem 𝓤 H A (Cursor .own (made s pos) (T′.lowered (made s pos) ∷ []))) (sem 𝓤 H A (Bytes .own s (slice-of s ∷ []))))
     own-made s pos fits =
         qed W (‵ (Bytes .own s (slice-of s ∷ [])) ∷ []) ∵
         use1 W (‵ (Bytes .own s (slice-of s ∷ [])) ⊛ ‵ (Bytes .own s (slice-of s ∷ [])))
         (shr-slice-copy 𝓤 H A W (named 0) κ u8 .twice s (slice-of s ∷ [])) $ split ! $
         nothing ! $ owned ! usize (Is usize) (uint-makes 𝓤 H A W w64) pos _ (refl, fits) $ fjoin ! $ move ! (1 ∷ 0 ∷ []) $ fjoin ! $
-        use1 W (‵ (Cursor .own (record { buf = s; pos = pos }) (T′.lowered (record { buf = s; pos = pos }) ∷ [])))
-        (own-shut 𝓤 H A W D L (s, (pos, tt))) $ done !
+        use1 W (‵ (Cursor .own (made s pos) (T′.lowered (made s pos) ∷ []))) (own-shut 𝓤 H A W D L (s, (pos, tt))) $ done !
 
     module _ (c : Cur) where
       abbrev Own : Fml
@@ -133,6 +140,13 @@ module _ (κ : Lft) where
         forget ! 0 refl $ keep ! (0 ∷ []) $ done !))
 
 module _ {M : Type 1} {𝓤 : URA M} {H : Heap 𝓤} {A : Atoms 𝓤} {K : Type 0} {W : Given 𝓤 H A} {Γ : List (Item 𝓤)} {G : Goal 𝓤 H} where
+  pub gives-cursor : K → (κ : Lft) (s : RefT (List ℕ)) (pos : ℕ) → pos < 2 ^ 64
+      → Step K W (‵ (Cursor κ .own (made s pos) (T′.lowered (made s pos) ∷ [])) ∷ ‵ (Bytes κ .own s (slice-of s ∷ [])) ∷ Γ) G
+      (‵ (Bytes κ .own s (slice-of s ∷ [])) ∷ Γ) G
+  gives-cursor k κ s pos fits =
+      step (λ t. use1 W (‵ (Cursor κ .own (made s pos) (T′.lowered (made s pos) ∷ [])) ⊛ ‵ (Bytes κ .own s (slice-of s ∷ [])))
+      (own-made κ 𝓤 H A W s pos fits) $ split k $ t)
+
   pub gives-buf : K → (κ : Lft) (c : Cur) → Step K W (‵ (Bytes κ .own (c .buf) (slice-of (c .buf) ∷ []))
       ∷ ‵ (Cursor κ .own c (T′.lowered c ∷ [])) ∷ Γ) G
       (‵ (Cursor κ .own c (T′.lowered c ∷ [])) ∷ Γ) G

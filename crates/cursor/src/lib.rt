@@ -40,20 +40,13 @@ fn pos_after(buf: &[u8], pos: usize, n: usize) -> usize
     }
 }
 
-// A slice and a position in it. Its functions hold no test of their own: they call the functions above on the two.
+// A slice and a position in it, which may be beyond the end. Its functions hold no test of their own: they call the functions above on the two.
 pub struct Cur<'a> {
-    buf: &'a [u8],
-    pos: usize,
+    pub buf: &'a [u8],
+    pub pos: usize,
 }
 
 impl<'a> Cur<'a> {
-    // At pos, which may be beyond the end of buf.
-    pub fn from_buf_pos(buf: &'a [u8], pos: usize) -> Cur<'a>
-        ensures { λ r. ⌜ (r .buf ≡ buf .entry) × (r .pos ≡ pos) ⌝ }
-    {
-        Cur { buf, pos }
-    }
-
     // The n-th number of 2 bytes from the position on, counted from 0. The position stays.
     pub fn nth_u16(self, n: u32) -> Peeked
         ensures { λ r. ⌜ peekedOutcome r ≡ peekOf 2 (self .entry .pos + 2 * n) (bytes (self .entry)) ⌝ }
@@ -78,13 +71,13 @@ impl<'a> Cur<'a> {
 pub fn nth_u16(buf: &[u8], pos: usize, n: u32) -> Peeked
     ensures { λ r. ⌜ peekedOutcome r ≡ peekOf 2 (pos + 2 * n) (now (buf .entry)) ⌝ }
 {
-    Cur::from_buf_pos(buf, pos).nth_u16(n)
+    Cur { buf, pos }.nth_u16(n)
 }
 
 // The n bytes at pos, as the part of buf that they occupy, or the empty part where buf is short.
 pub fn part_at(buf: &[u8], pos: usize, n: usize) -> &[u8]
     ensures { λ r. ⌜ now r ≡ takenPart pos n (now (buf .entry)) ⌝ }
 {
-    let mut cur = Cur::from_buf_pos(buf, pos);
+    let mut cur = Cur { buf, pos };
     cur.next_n_u8s(n)
 }
