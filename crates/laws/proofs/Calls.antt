@@ -31,6 +31,7 @@ use Rattle.places.specs.declared.Places.{Places}
 use Rattle.scripts.proofs.Runs.{bytes-out}
 use Rattle.reading.proofs.Readings.{header-follows, read-header-follows}
 use Rattle.decode.specs.Pictures.{ready, decoded, pictureOf, lacksPalette, lacksData}
+use Rattle.pam.specs.Pam.{pamOf}
 use Rattle.laws.specs.BlockCalls.{nothing}
 
 -- On two blocks, or parts of one, of which the script comes to the same, the call gives the same. Where the script is short, the call is
@@ -280,3 +281,20 @@ module _ (n : ℕ) (choice : PaletteChoice) where
       of-answer readTex (λ a. writeOutcome (pictureOf n choice a) output) (λ a. writeOutput (pictureOf n choice a) output) output
       (λ w. (refl, refl))
       (λ a w e. picture-short a w (write-short (pictureOf n choice a) output w e))
+
+  pam-short : (a : Answer Contents) (w : ℕ) → pamOf n choice a ≡ refusal 1 w → a ≡ short w
+  unfolding pamOf _>>=_
+  pam-short a w e = go (Sources.sourcesOf n choice a) refl
+    where
+      go : (o : Outcome Sources.Sources) → Sources.sourcesOf n choice a ≡ o → a ≡ short w
+      go (result s) q = picture-short a w (bind-short (pictureOf n choice a) _ (λ p. result-not {A = List ℕ}) w (rw q at e))
+      go (refusal k v) q = let f = rw q at e in sources-short a w (q ∙ cc)
+
+  pub pam-scripted : (output : List ℕ)
+      → Scripted readTex (λ b. writeOutcome (pamOf n choice (run readTex b)) output)
+      (λ b. writeOutput (pamOf n choice (run readTex b)) output) output
+  unfolding pamOf Sources.sourcesOf outcomeOf _>>=_ writeOutcome writeOutput
+  pam-scripted output =
+      of-answer readTex (λ a. writeOutcome (pamOf n choice a) output) (λ a. writeOutput (pamOf n choice a) output) output
+      (λ w. (refl, refl))
+      (λ a w e. pam-short a w (write-short (pamOf n choice a) output w e))

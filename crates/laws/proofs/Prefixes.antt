@@ -1,4 +1,4 @@
--- The law on early runs, for every call in the list of block calls. Assumes nothing.
+-- The law on early runs, for each call in the list of block calls. Assumes nothing.
 use Prim.Native.Nat.{ℕ, _≤_}
 use mathlib.Core.List.{List}
 use native.Mathlib.Omega.{arith}
@@ -7,10 +7,9 @@ use Rattle.util.specs.Outcome.{Outcome}
 use Rattle.scripts.specs.Script.{Script}
 use Rattle.scripts.proofs.Early.{early-settled, early-waits}
 use Rattle.scripts.proofs.Runs.{run-short}
-use Rattle.laws.specs.BlockCalls.{BlockCalls}
-use Rattle.laws.specs.Prefix.{PrefixAt, Prefix, Arriving}
+use Rattle.laws.specs.Prefix.{Prefix, PrefixLaws}
 use Rattle.laws.proofs.Calls.{Scripted, list-scripted, lay-out-scripted, reading-scripted, texture-scripted, palette-scripted, data1-scripted}
-use Rattle.laws.proofs.Calls.{data2-scripted, pal-block-scripted, pal-place-scripted, locate-scripted, rows-scripted, picture-scripted}
+use Rattle.laws.proofs.Calls.{data2-scripted, pal-block-scripted, pal-place-scripted, locate-scripted, rows-scripted, picture-scripted, pam-scripted}
 
 -- from the law on scripts, for every call that goes by what a script comes to
 module _ {A B C : Type 0} (s : Script A) {answer : List ℕ → Outcome B} {beside : List ℕ → C} {declined : C} where
@@ -31,13 +30,8 @@ module _ {A B C : Type 0} (s : Script A) {answer : List ℕ → Outcome B} {besi
       up-to : n ≤ length b
       up-to = omega (arith, h)
 
--- "every n up to its length": also the whole block, which a fetching run may be lent
-pub whole-lent : {A B : Type 0} {answer : List ℕ → Outcome A} {beside : List ℕ → B} {declined : B} → Prefix answer beside declined
-    → (block : List ℕ) → PrefixAt answer beside declined block (length block)
-whole-lent law block = law block (length block) (omega arith)
-
 -- and so for each
-pub arriving : BlockCalls Arriving
+pub arriving : PrefixLaws
 arriving = record {
   read = λ kind pos. prefix-law _ (list-scripted kind pos);
   lay-out = prefix-law _ lay-out-scripted;
@@ -51,4 +45,5 @@ arriving = record {
   locate = λ i choice. prefix-law _ (locate-scripted i choice);
   rows = λ kind output. prefix-law _ (rows-scripted kind output);
   picture = λ i choice output. prefix-law _ (picture-scripted i choice output);
+  pam = λ i choice output. prefix-law _ (pam-scripted i choice output);
 }

@@ -1,7 +1,11 @@
--- The calls that take a block and read it. A law that is to hold of all of them is stated once, over a call as a value; `BlockCalls` of that law
--- has a field for each call. So a call that is added here owes every law of the list. Not here: the forms by a layout or by places, which are handed
--- what a reading of the same bytes found; and what is made of these calls, which are fetching runs, listings, images and the forms for C.
--- Assumes nothing.
+-- Thirteen calls that read the block that they take: a name list, the layout, the reading, the records, the data parts, the palette block and its
+-- place, a picture's places, rows, pictures and images. A law that is to hold of all of them is stated once, over a call as a value; `BlockCalls`
+-- of that law has a field for each call. So a call that is added here owes every law of the list.
+--
+-- Not here: the forms by a layout or by places, which are handed what a reading of the same bytes found; fetching runs, which are lent the whole
+-- block (`stream` specs/Fetch.antt); the listing, which has a text also for a block that is refused, and so another text for a block that is cut;
+-- and `show::show`, which takes a file and is `pam` for one that is not too long. A form for C is not here either: it tells what these calls answer and leave,
+-- by equations over that alone (`told` specs/Told.antt), so what a law says of the call it says of the form. Assumes nothing.
 use Prim.Native.Nat.{ℕ}
 use mathlib.Core.List.{List, []}
 use Rattle.util.specs.Outcome.{Outcome}
@@ -21,6 +25,7 @@ use Rattle.places.specs.declared.PaletteChoice.{PaletteChoice}
 use Rattle.places.specs.declared.Place.{Place}
 use Rattle.places.specs.declared.Places.{Places}
 use Rattle.decode.specs.Pictures.{pictureOf}
+use Rattle.pam.specs.Pam.{pamOf}
 
 -- A call, with all that it is given but the block: on a block it gives `answer`, and `beside` it an output, a record or a part, which is
 -- `declined` where the call is declined.
@@ -96,6 +101,10 @@ blockRows kind output = writing (λ b. rowsOf kind b (run readTex b)) output
 abbrev pub blockPicture : (i : ℕ) (choice : PaletteChoice) (output : List ℕ) → BlockCall ℕ (List ℕ)
 blockPicture i choice output = writing (λ b. pictureOf i choice (run readTex b)) output
 
+-- `pam::pam`: the length of a picture's image, and the output as the call leaves it.
+abbrev pub blockPam : (i : ℕ) (choice : PaletteChoice) (output : List ℕ) → BlockCall ℕ (List ℕ)
+blockPam i choice output = writing (λ b. pamOf i choice (run readTex b)) output
+
 -- All of them, under a law: for every number, kind, choice and output.
 pub record BlockCalls (Law : (A B : Type 0) → BlockCall A B → Type 0) : Type 0 where
   pub read : (kind : Kind) (pos : ℕ) → Law _ _ (blockRead kind pos)
@@ -110,3 +119,4 @@ pub record BlockCalls (Law : (A B : Type 0) → BlockCall A B → Type 0) : Type
   pub locate : (i : ℕ) (choice : PaletteChoice) → Law _ _ (blockLocate i choice)
   pub rows : (kind : Kind) (output : List ℕ) → Law _ _ (blockRows kind output)
   pub picture : (i : ℕ) (choice : PaletteChoice) (output : List ℕ) → Law _ _ (blockPicture i choice output)
+  pub pam : (i : ℕ) (choice : PaletteChoice) (output : List ℕ) → Law _ _ (blockPam i choice output)

@@ -1,4 +1,4 @@
--- 01's fetching run, attempt after attempt, for every call of the reading: it ends, and in what. Assumes nothing.
+-- 01's fetching run, attempt after attempt, for every call that goes by the reading: it ends, and in what. Assumes nothing.
 use Prim.Native.Nat.{ℕ, zero, suc, _+_, _-_, _≤_, _<_}
 use mathlib.Core.Path.{_≡_, refl, sym, ap, _∙_}
 use mathlib.Core.Bool.{Bool, true, false}
@@ -9,20 +9,13 @@ use lib.Dec.{leb}
 use borrow.Author.Tests.{leb-true, leb-false}
 use Rattle.util.specs.Outcome.{Outcome, refusal}
 use Rattle.reading.specs.Tex.{readTex}
-use Rattle.places.specs.declared.PaletteChoice.{PaletteChoice}
-use Rattle.stream.specs.Fetch.{shortness, Call, Stops, Attempts, shortOnes, Fetched, readingCall, pictureCall}
+use Rattle.stream.specs.Fetch.{shortness, Call, Stops, Attempts, shortOnes, Fetched, readingCall, pictureCall, Ran, FetchLaws}
 use Rattle.stream.specs.declared.shortness.Shortness.{Shortness}
 use Rattle.stream.specs.declared.shortness.Shortness.the-variants.{Needs, Enough}
 use Rattle.laws.proofs.Calls.{Scripted, reading-scripted, picture-scripted}
 use Rattle.stream.proofs.Fetches.{needs-short, Fetching, fetch-start, Ending, Waiting, settled, waiting, fetched}
+use Rattle.stream.proofs.Counts.{bound-reached}
 use Rattle.laws.proofs.Prefixes.{prefix-law}
-
--- a fetching run, from an attempt on
-pub record Ran {A B : Type 0} (call : Call A B) (block : List ℕ) (given : ℕ) (output : B) : Type 0 where
-  pub later : List ℕ
-  pub last : Outcome A
-  pub left : B
-  pub is : Attempts call block given output later last left
 
 module _ {A B : Type 0} (call : Call A B)
     (scripted : (output : B) → Scripted readTex (λ b. call .answer b output) (λ b. call .leaves b output) output) (b : List ℕ) where
@@ -95,18 +88,12 @@ module _ {A B : Type 0} (call : Call A B)
       let f = comes (r .later) output (fetch-start b refl refl) (r .is) in
       fetched call b (f .answered) (f .leaving) (omega (arith, f .counted))
 
--- for every block, number, choice and output: a reading's fetching run and a picture's end, and each comes to what the full run comes to
-pub reading-ends : (block : List ℕ) → Ran readingCall block 0 tt
-reading-ends block = fetching-ends readingCall (λ _. reading-scripted) block tt
-
-pub reading-comes : (block : List ℕ) (r : Ran readingCall block 0 tt)
-    → Fetched readingCall block tt (r .last) (r .left) (shortOnes (r .later) (shortness (r .last)))
-reading-comes block r = fetching-comes readingCall (λ _. reading-scripted) block tt r
-
-module _ (n : ℕ) (choice : PaletteChoice) (block output : List ℕ) where
-  pub picture-ends : Ran (pictureCall n choice) block 0 output
-  picture-ends = fetching-ends (pictureCall n choice) (picture-scripted n choice) block output
-
-  pub picture-comes : (r : Ran (pictureCall n choice) block 0 output)
-      → Fetched (pictureCall n choice) block output (r .last) (r .left) (shortOnes (r .later) (shortness (r .last)))
-  picture-comes r = fetching-comes (pictureCall n choice) (picture-scripted n choice) block output r
+-- a reading's fetching run and a picture's
+pub fetch-laws : FetchLaws
+fetch-laws = record {
+  reading-ends = λ block. fetching-ends readingCall (λ _. reading-scripted) block tt;
+  picture-ends = λ n choice block output. fetching-ends (pictureCall n choice) (picture-scripted n choice) block output;
+  reading-comes = λ block r. fetching-comes readingCall (λ _. reading-scripted) block tt r;
+  picture-comes = λ n choice block output r. fetching-comes (pictureCall n choice) (picture-scripted n choice) block output r;
+  reached = bound-reached;
+}

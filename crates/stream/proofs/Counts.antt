@@ -174,9 +174,28 @@ pub bound : (b : List ℕ) → shortAnswers b ≤ 6 + 2 * textureCount b
 unfolding shortAnswers
 bound b = omega (arith, records-most 0 (ends readTex b), tests-all b .most)
 
--- A block of 152 bytes with one texture of format 5, 8 by 8, and no palette, in which each length tested is larger than all before.
-unfoldable pub rising : List ℕ
-rising =
+-- Two blocks in which each length tested is larger than all before. The first has 100 bytes, no texture and no palette.
+unfoldable pub rising0 : List ℕ
+rising0 =
+    (0x54 ∷ 0x45 ∷ 0x58 ∷ 0x30 ∷ [])  -- 0 to 3: the stamp `TEX0`
+    ++ replicate 10 0  -- 4 to 13
+    ++ (68 ∷ 0 ∷ [])  -- 14, 15: `texture_off`
+    ++ replicate 32 0  -- 16 to 47
+    ++ (1 ∷ 0 ∷ [])  -- 48, 49: `pal_block_len_shr_3`
+    ++ replicate 2 0  -- 50, 51
+    ++ (84 ∷ 0 ∷ 0 ∷ 0 ∷ [])  -- 52 to 55: `palette_off`
+    ++ (60 ∷ 0 ∷ 0 ∷ 0 ∷ [])  -- 56 to 59: `pal_block_off`
+    ++ replicate 8 0  -- 60 to 67: the palette block
+    ++ replicate 12 0  -- 68 to 79: the texture list, with no texture
+    ++ (8 ∷ 0 ∷ [])  -- 80, 81: its datum size
+    ++ replicate 2 0  -- 82, 83
+    ++ replicate 12 0  -- 84 to 95: the palette list, with no palette
+    ++ (4 ∷ 0 ∷ [])  -- 96, 97: its datum size
+    ++ replicate 2 0  -- 98, 99
+
+-- The second has 152 bytes, one texture of format 5, 8 by 8, and no palette.
+unfoldable pub rising1 : List ℕ
+rising1 =
     (0x54 ∷ 0x45 ∷ 0x58 ∷ 0x30 ∷ [])  -- 0 to 3: the stamp `TEX0`
     ++ replicate 10 0  -- 4 to 13
     ++ (68 ∷ 0 ∷ [])  -- 14, 15: `texture_off`
@@ -200,8 +219,17 @@ rising =
     ++ (4 ∷ 0 ∷ [])  -- 148, 149: its datum size
     ++ replicate 2 0  -- 150, 151
 
--- so the bound is reached, and no smaller one holds
-pub bound-reached : (textureCount rising ≡ 1) × (shortAnswers rising ≡ 6 + 2 * 1)
-unfolding shortAnswers textureCount rising width height dataLength numberAt run ends records bytesAt expect eachFrom _>>=_ _>>_
+rising0-counts : (textureCount rising0 ≡ 0) × (shortAnswers rising0 ≡ 6)
+unfolding shortAnswers textureCount rising0 numberAt run ends records bytesAt expect eachFrom _>>=_ _>>_ wholeList nameList headerOf readHeader
+    readPalBlock readTextures readPalettes readTex
+rising0-counts = (refl, refl)
+
+rising1-counts : (textureCount rising1 ≡ 1) × (shortAnswers rising1 ≡ 8)
+unfolding shortAnswers textureCount rising1 width height dataLength numberAt run ends records bytesAt expect eachFrom _>>=_ _>>_
     wholeList nameList headerOf dataAt secondAt readHeader readPalBlock readSecond readData readTexture readTextures readPalettes readTex
-bound-reached = (refl, refl)
+rising1-counts = (refl, refl)
+
+-- so the bound is reached without a texture and with one
+pub bound-reached : (most : ℕ → ℕ) → ((block : List ℕ) → shortAnswers block ≤ most (textureCount block)) → (6 ≤ most 0) × (8 ≤ most 1)
+bound-reached most holds =
+    (rw (rising0-counts .0, rising0-counts .1) at (holds rising0), rw (rising1-counts .0, rising1-counts .1) at (holds rising1))

@@ -83,3 +83,27 @@ pictureCall n choice = record {
   answer = λ block output. writeOutcome (pictureOf n choice (run readTex block)) output;
   leaves = λ block output. writeOutput (pictureOf n choice (run readTex block)) output;
 }
+
+-- A fetching run over a block, from an attempt that is lent `given` bytes and `output` on: the lengths that the attempts after it are lent, the
+-- last answer, and the output that is left.
+pub record Ran {A B : Type 0} (call : Call A B) (block : List ℕ) (given : ℕ) (output : B) : Type 0 where
+  pub later : List ℕ
+  pub last : Outcome A
+  pub left : B
+  pub is : Attempts call block given output later last left
+
+-- What is claimed of fetching runs, each from 0 bytes on. `fetch-laws` of proofs/Attempts.antt proves it.
+pub record FetchLaws : Type 0 where
+  -- Demand 3: "A fetching run, for a reading or a picture, begins empty and is each time given bytes up to the want, until an answer isn't
+  -- short or the want exceeds the block." There is such a run for every block, number, choice and output.
+  pub reading-ends : (block : List ℕ) → Ran readingCall block 0 tt
+  pub picture-ends : (n : ℕ) (choice : PaletteChoice) (block output : List ℕ) → Ran (pictureCall n choice) block 0 output
+  -- "For every block, number, choice and output it ends in the full run's answer and output. Its result counts its short answers: ..": the one
+  -- claim holds of every such run, with the count of its short answers.
+  pub reading-comes : (block : List ℕ) (r : Ran readingCall block 0 tt)
+      → Fetched readingCall block tt (r .last) (r .left) (shortOnes (r .later) (shortness (r .last)))
+  pub picture-comes : (n : ℕ) (choice : PaletteChoice) (block output : List ℕ) (r : Ran (pictureCall n choice) block 0 output)
+      → Fetched (pictureCall n choice) block output (r .last) (r .left) (shortOnes (r .later) (shortness (r .last)))
+  -- 6 + 2t is reached without a texture and with one: a bound by the texture count that holds of all blocks is at least 6 there, and 8. It is not
+  -- said that 6 + 2t is reached for every t.
+  pub reached : (most : ℕ → ℕ) → ((block : List ℕ) → shortAnswers block ≤ most (textureCount block)) → (6 ≤ most 0) × (8 ≤ most 1)
