@@ -17,16 +17,16 @@ use Rattle.reading.specs.Tex.{Contents, readTex}
 use Rattle.nitro.specs.Calls.{textureRecord, paletteRecord}
 use Rattle.reading.proofs.Sizes.{want-small, textures-few, palettes-few, texture-name, palette-name, palette-off}
 use Rattle.text.specs.Text.{ascii, decimal, line}
+use Rattle.text.proofs.Decimals.{decimal-length}
+use Rattle.refused.specs.Refused.{refusedLine}
+use Rattle.refused.proofs.Lengths.{refused-length}
 use Rattle.lines.specs.Lines.{textureLine, paletteLine}
 use Rattle.lines.proofs.Lengths.{texture-length, palette-length}
-use Rattle.listing.specs.Listing.{headed, listsOf, refusedLine, printed, listingOutcome, listingText}
-use Rattle.text.proofs.Decimals.{decimal-length}
+use Rattle.listing.specs.Listing.{headed, listsOf, printed, listingOutcome, listingText}
 
 -- the line of a refusal
-refused-length : (number returned : ℕ) → number < 100 → returned < 2 ^ 34 → length (refusedLine number returned) ≤ 22211
-unfolding refusedLine line ascii
-refused-length number returned h k =
-    simp length-append (omega (arith, decimal-length number 1 (omega arith), decimal-length returned 10 (omega arith)))
+refused-fits : (number returned : ℕ) → number < 100 → returned < 2 ^ 34 → length (refusedLine number returned) ≤ 22211
+refused-fits number returned h k = omega (arith, refused-length number returned (omega arith) (omega arith))
 
 -- the lines of a list, each of which is short
 module _ {A B : Type 0} (make : A → B) (lineOf : ℕ → B → List ℕ) (most : ℕ) where
@@ -64,11 +64,11 @@ module _ (b : List ℕ) (bytes : (k : ℕ) → getD b k 0 < 256) where
       ))
 
   fault-length : (found : Fault) → length (refusedLine (faultNumber found) 0) ≤ 22211
-  fault-length badStamp = refused-length _ _ (lit< tt) (lit< tt)
-  fault-length (badDummy Texture) = refused-length _ _ (lit< tt) (lit< tt)
-  fault-length (badDummy Palette) = refused-length _ _ (lit< tt) (lit< tt)
-  fault-length (badSize Texture) = refused-length _ _ (lit< tt) (lit< tt)
-  fault-length (badSize Palette) = refused-length _ _ (lit< tt) (lit< tt)
+  fault-length badStamp = refused-fits _ _ (lit< tt) (lit< tt)
+  fault-length (badDummy Texture) = refused-fits _ _ (lit< tt) (lit< tt)
+  fault-length (badDummy Palette) = refused-fits _ _ (lit< tt) (lit< tt)
+  fault-length (badSize Texture) = refused-fits _ _ (lit< tt) (lit< tt)
+  fault-length (badSize Palette) = refused-fits _ _ (lit< tt) (lit< tt)
 
   pub listing-fits : length (listingText b) ≤ 22211
   unfolding listingText listingOutcome outcomeOf
@@ -76,7 +76,7 @@ module _ (b : List ℕ) (bytes : (k : ℕ) → getD b k 0 < 256) where
     where
       go : (t : Bool) (a : Answer Contents) → run readTex b ≡ a
           → length (printed (cond t (refusal 13 0) (outcomeOf a λ c. result (listsOf c)))) ≤ 22211
-      go true a e = refused-length 13 0 (lit< tt) (lit< tt)
-      go false (short needed) e = refused-length 1 needed (lit< tt) (want-small b bytes e)
+      go true a e = refused-fits 13 0 (lit< tt) (lit< tt)
+      go false (short needed) e = refused-fits 1 needed (lit< tt) (want-small b bytes e)
       go false (fault found) e = fault-length found
       go false (whole c) e = lists-length e

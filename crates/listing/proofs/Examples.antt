@@ -14,7 +14,8 @@ use Rattle.nitro.proofs.Sample.{leaf, sample}
 use Rattle.text.specs.Text.{ascii, decimalBelow, decimal, line}
 use Rattle.output.specs.Output.{piecesFrom}
 use Rattle.lines.specs.Lines.{wrapWord, alphaWord, textureLine, paletteLine}
-use Rattle.listing.specs.Listing.{headed, listsOf, refusedLine, listingOutcome, listingText}
+use Rattle.refused.specs.Refused.{refusedLine}
+use Rattle.listing.specs.Listing.{headed, listsOf, listingOutcome, listingText}
 
 pub record Examples : Type 0 where
   -- "It prints: .."

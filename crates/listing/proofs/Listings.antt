@@ -15,7 +15,8 @@ use Rattle.reading.specs.Tex.{Contents, readTex}
 use Rattle.reading.specs.Layouts.{layoutOf, layoutAnswer, LaidOut}
 use Rattle.layout.specs.declared.Layout.{Layout}
 use Rattle.scripts.proofs.Runs.{ended, whole-outcome}
-use Rattle.listing.specs.Listing.{refusedLine, printed, listsOf, listingOutcome, listingText}
+use Rattle.refused.specs.Refused.{refusedLine}
+use Rattle.listing.specs.Listing.{printed, listsOf, listingOutcome, listingText}
 use Rattle.listing.specs.Lists.{listOf}
 use Rattle.listing.proofs.Lists.{lists-whole}
 

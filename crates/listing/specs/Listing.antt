@@ -13,6 +13,7 @@ use Rattle.nitro.specs.Calls.{textureRecord, paletteRecord}
 use Rattle.nitro.specs.declared.tex.TextureRecord.{TextureRecord}
 use Rattle.nitro.specs.declared.tex.PaletteRecord.{PaletteRecord}
 use Rattle.text.specs.Text.{ascii, decimal, line}
+use Rattle.refused.specs.Refused.{refusedLine}
 use Rattle.lines.specs.Lines.{textureLine, paletteLine}
 
 -- 01, "Listing program": "Each list opens with its word and its count." The lines behind it are numbered in the records' order.
@@ -34,10 +35,7 @@ listsOf c = headed "textures" textureLine (textureRecords c) ++ headed "palettes
 unfoldable pub listingOutcome : (input : List ℕ) → Outcome (List ℕ)
 listingOutcome input = cond (ltb 65536 (length input)) (refusal 13 0) (outcomeOf (run readTex input) λ c. result (listsOf c))
 
--- "Otherwise the single line `refused`, number, want". Beside a number that is not 1 stands 0, which the table of refusals has as returned.
-unfoldable pub refusedLine : (number returned : ℕ) → List ℕ
-refusedLine number returned = line (ascii "refused" ∷ decimal number ∷ decimal returned ∷ [])
-
+-- What is printed of it: the text, or the line of the refusal.
 abbrev pub printed : Outcome (List ℕ) → List ℕ
 printed (result text) = text
 printed (refusal number returned) = refusedLine number returned

@@ -10,6 +10,7 @@ use nitro::tex::palette_by;
 use nitro::tex::texture_by;
 use reading::Laid;
 use reading::lay_out;
+use refused::put_refused;
 use text::put;
 use text::put_field;
 use text::put_number;
@@ -81,16 +82,6 @@ fn put_list(out: &mut [u8], at: usize, block: &[u8], kind: Kind, layout: Layout)
         n += 1;
     }
     at
-}
-
-// The line of a refusal: its number and the value returned beside it. The caller shows that there is room.
-pub fn put_refused(out: &mut [u8], at: usize, number: usize, returned: usize) -> usize
-    requires { ⌜ Room (Listing.refusedLine number returned) (now out) at ⌝ }
-    ensures { λ r. ⌜ Put (Listing.refusedLine number returned) (now (out .entry)) at (now (out .exit)) r ⌝ }
-{
-    let at = put_field(out, at, b"refused", b" ");
-    let at = put_number(out, at, number, b" ");
-    put_number(out, at, returned, b"\n")
 }
 
 // Whether the input is too long to be read.

@@ -14,22 +14,17 @@ use Rattle.places.specs.Sources.{Sources, sourcesOf}
 use Rattle.places.specs.declared.PaletteChoice.{PaletteChoice}
 use Rattle.decode.specs.Pictures.{texelCount, pictureOf}
 use Rattle.decode.proofs.Pictures.{picture-found}
-use Rattle.text.specs.Text.{ascii, line}
 use Rattle.text.specs.Put.{Room}
-use Rattle.text.proofs.Decimals.{decimal-length}
-use Rattle.listing.specs.Listing.{refusedLine}
+use Rattle.refused.specs.Refused.{refusedLine}
+use Rattle.refused.proofs.Lengths.{refused-length}
 use Rattle.pam.specs.Pam.{headerText, pamOf}
 use Rattle.pam.proofs.Headers.{header-fits}
 use Rattle.pam.proofs.Images.{decoded-length}
 
 -- the line of a refusal, whose two numbers have 64 bits
 module _ (number returned : ℕ) (h : number < 2 ^ 64) (k : returned < 2 ^ 64) where
-  refused-length : length (refusedLine number returned) ≤ 50
-  unfolding refusedLine line ascii
-  refused-length = simp length-append (omega (arith, decimal-length number 19 (omega arith), decimal-length returned 19 (omega arith)))
-
   pub refused-room : {output : List ℕ} → 50 ≤ length output → Room (refusedLine number returned) output 0
-  refused-room r = record { fits = omega (arith, refused-length) }
+  refused-room r = record { fits = omega (arith, refused-length number returned h k) }
 
 texels-few : (w : ℕ) → texelCount w ≤ 1048576
 texels-few w = mul-le-mul {n₂ = 1024} {m₂ = 1024} (width-le w) (height-le w)

@@ -9,7 +9,8 @@ use Rattle.scripts.specs.Script.{run, outcomeOf, bytesAt, _>>=_, _>>_}
 use Rattle.reading.specs.Tex.{readHeader, readTex}
 use Rattle.util.specs.Outcome.{_>>=_ as _andThen_}
 use Rattle.text.specs.Text.{ascii, decimalBelow, decimal, line}
-use Rattle.listing.specs.Listing.{refusedLine, printed}
+use Rattle.refused.specs.Refused.{refusedLine}
+use Rattle.listing.specs.Listing.{printed}
 use Rattle.pam.specs.Pam.{headerText, pamOf, shownOutcome}
 
 pub record Examples : Type 0 where

@@ -17,7 +17,8 @@ use Rattle.reading.specs.Tex.{readTex}
 use Rattle.places.specs.declared.PaletteChoice.{PaletteChoice}
 use Rattle.text.specs.Put.{Room, Put}
 use Rattle.text.proofs.Puts.{put-writes}
-use Rattle.listing.specs.Listing.{refusedLine, printed}
+use Rattle.refused.specs.Refused.{refusedLine}
+use Rattle.listing.specs.Listing.{printed}
 use Rattle.pam.specs.Pam.{pamOf, tooLong, shownOutcome, shownAs}
 use Rattle.pam.specs.declared.Shown.{Shown}
 

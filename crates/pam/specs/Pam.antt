@@ -12,7 +12,8 @@ use Rattle.places.specs.Sources.{sourcesOf}
 use Rattle.places.specs.declared.PaletteChoice.{PaletteChoice}
 use Rattle.decode.specs.Pictures.{pictureOf}
 use Rattle.text.specs.Text.{ascii, decimal, line}
-use Rattle.listing.specs.Listing.{refusedLine, printed}
+use Rattle.refused.specs.Refused.{refusedLine}
+use Rattle.listing.specs.Listing.{printed}
 use Rattle.pam.specs.declared.Shown.{Shown}
 
 -- pam(5): "The header begins with the ASCII characters "P7" followed by newline", and "ENDHDR This is the last line in the header". In the

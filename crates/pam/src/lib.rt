@@ -1,11 +1,11 @@
 // A picture of a TEX0 block as a PAM image: Netpbm's format for pictures with alpha, which stock viewers and converters read.
 use decode::picture::picture_at;
 use errors::Counted;
-use listing::put_refused;
 use nds::texture_params::TextureParams;
 use places::Located;
 use places::PaletteChoice;
 use places::locate;
+use refused::put_refused;
 use text::put;
 use text::put_field;
 use text::put_number;

@@ -11,7 +11,8 @@ use Rattle.errors.specs.declared.Kind.the-variants.{Texture, Palette}
 use Rattle.scripts.specs.Script.{run}
 use Rattle.reading.specs.Tex.{readTex}
 use Rattle.reading.specs.Layouts.{LaidOut}
-use Rattle.listing.specs.Listing.{listingText, refusedLine}
+use Rattle.refused.specs.Refused.{refusedLine}
+use Rattle.listing.specs.Listing.{listingText}
 use Rattle.listing.specs.Lists.{listOf}
 use Rattle.text.proofs.Puts.{put-then, room-first, room-then}
 use Rattle.listing.proofs.Listings.{too-long, listing-lists, listing-refused}

@@ -1,10 +1,10 @@
--- `listing::put_refused` meets its contract: the line's fields are put one behind the other. Assumes nothing.
+-- `refused::put_refused` meets its contract: the line's fields are put one behind the other. Assumes nothing.
 use borrow.Author.Needs.{needs}
 use Rattle.text.specs.Text.{ascii, line}
-use Rattle.listing.specs.Listing.{refusedLine}
 use Rattle.text.proofs.Puts.{put-then, room-first, room-then, room-next}
-use Rattle.listing.proofs.put_refused.Statement.{statement}
-use Rattle.listing.proofs.put_refused.Tie as tie
+use Rattle.refused.specs.Refused.{refusedLine}
+use Rattle.refused.proofs.put_refused.Statement.{statement}
+use Rattle.refused.proofs.put_refused.Tie as tie
 
 slice-aggregate-put-field : tie.Need-slice-aggregate-put-field
 slice-aggregate-put-field c = search needs
