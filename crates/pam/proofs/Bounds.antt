@@ -1,6 +1,5 @@
--- No image is longer than 4,194,375 bytes: a header of 71, and 4 for each of 1024 times 1024 texels. The line of a refusal is shorter.
--- Assumes nothing.
-use Prim.Native.Nat.{ℕ, _^_, _≤_, _<_}
+-- No image is longer than 4,194,375 bytes: a header of 71, and 4 for each of 1024 times 1024 texels. Assumes nothing.
+use Prim.Native.Nat.{ℕ, _≤_}
 use mathlib.Core.Path.{_≡_, refl, sym, _∙_}
 use mathlib.Core.List.{List, _++_}
 use native.Mathlib.Nat.{mul-le-mul}
@@ -14,17 +13,9 @@ use Rattle.places.specs.Sources.{Sources, sourcesOf}
 use Rattle.places.specs.declared.PaletteChoice.{PaletteChoice}
 use Rattle.decode.specs.Pictures.{texelCount, pictureOf}
 use Rattle.decode.proofs.Pictures.{picture-found}
-use Rattle.text.specs.Put.{Room}
-use Rattle.refused.specs.Refused.{refusedLine}
-use Rattle.refused.proofs.Lengths.{refused-length}
 use Rattle.pam.specs.Pam.{headerText, pamOf}
 use Rattle.pam.proofs.Headers.{header-fits}
 use Rattle.pam.proofs.Images.{decoded-length}
-
--- the line of a refusal, whose two numbers have 64 bits
-module _ (number returned : ℕ) (h : number < 2 ^ 64) (k : returned < 2 ^ 64) where
-  pub refused-room : {output : List ℕ} → 50 ≤ length output → Room (refusedLine number returned) output 0
-  refused-room r = record { fits = omega (arith, refused-length number returned h k) }
 
 texels-few : (w : ℕ) → texelCount w ≤ 1048576
 texels-few w = mul-le-mul {n₂ = 1024} {m₂ = 1024} (width-le w) (height-le w)

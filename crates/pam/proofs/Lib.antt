@@ -2,5 +2,3 @@ pub mod Bounds
 pub mod Examples
 pub mod Headers
 pub mod Images
-pub mod Limits
-pub mod Shows

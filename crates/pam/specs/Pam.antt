@@ -1,20 +1,14 @@
 -- Pictures as PAM images: Netpbm's pam(5). Assumes nothing.
 use Prim.Native.Nat.{ℕ}
-use mathlib.Core.Bool.{Bool, true, false, cond}
 use mathlib.Core.List.{List, [], _∷_, _++_}
-use lib.ListN.{length}
-use lib.Dec.{ltb}
-use Rattle.util.specs.Outcome.{Outcome, result, refusal, _>>=_}
+use Rattle.util.specs.Outcome.{Outcome, result, _>>=_}
 use Rattle.nds.specs.Params.{width, height}
-use Rattle.scripts.specs.Script.{Answer, run}
-use Rattle.reading.specs.Tex.{Contents, readTex}
+use Rattle.scripts.specs.Script.{Answer}
+use Rattle.reading.specs.Tex.{Contents}
 use Rattle.places.specs.Sources.{sourcesOf}
 use Rattle.places.specs.declared.PaletteChoice.{PaletteChoice}
 use Rattle.decode.specs.Pictures.{pictureOf}
 use Rattle.text.specs.Text.{ascii, decimal, line}
-use Rattle.refused.specs.Refused.{refusedLine}
-use Rattle.listing.specs.Listing.{printed}
-use Rattle.pam.specs.declared.Shown.{Shown}
 
 -- pam(5): "The header begins with the ASCII characters "P7" followed by newline", and "ENDHDR This is the last line in the header". In the
 -- lines between, "the second token is a decimal number representing" the width, the height, the depth, which is the number of bytes of a
@@ -35,20 +29,3 @@ pamOf n choice a = do
   sources ← sourcesOf n choice a
   picture ← pictureOf n choice a
   result (headerText (sources .word) ++ picture)
-
--- A file of more than 3 MiB is not read.
-abbrev pub tooLong : (input : List ℕ) → Bool
-tooLong input = ltb 3145728 (length input)
-
--- What is shown of a file: its image, or the refusal, which for a file that is too long has the listing's number, 13.
-unfoldable pub shownOutcome : (input : List ℕ) (n : ℕ) → PaletteChoice → Outcome (List ℕ)
-shownOutcome input n choice = cond (tooLong input) (refusal 13 0) (pamOf n choice (run readTex input))
-
--- The text of it: the image, or the listing's line of a refusal.
-abbrev pub shownText : (input : List ℕ) (n : ℕ) → PaletteChoice → List ℕ
-shownText input n choice = printed (shownOutcome input n choice)
-
--- How it is answered: whether it is a refusal, and the length of what is written.
-abbrev pub shownAs : Outcome (List ℕ) → Shown
-shownAs (result image) = record { refused = false; len = length image }
-shownAs (refusal number returned) = record { refused = true; len = length (refusedLine number returned) }

@@ -5,7 +5,6 @@ use nds::texture_params::TextureParams;
 use places::Located;
 use places::PaletteChoice;
 use places::locate;
-use refused::put_refused;
 use text::put;
 use text::put_field;
 use text::put_number;
@@ -13,8 +12,6 @@ ghost use Prim.Native.Nat.{min};
 ghost use mathlib.Core.Path.{_≡_};
 ghost use mathlib.Core.List.{[], _∷_};
 ghost use lib.ListN.{length};
-ghost use Rattle.io.specs.Counts.{Counts};
-ghost use Rattle.util.specs.Outcome.{result};
 ghost use Rattle.output.specs.Output.{Writes};
 ghost use Rattle.errors.specs.Refusal.{countedOutcome};
 ghost use Rattle.scripts.specs.Script.{run};
@@ -22,19 +19,6 @@ ghost use Rattle.reading.specs.Tex.{readTex};
 ghost use Rattle.text.specs.Text.{decimal, line};
 ghost use Rattle.text.specs.Put.{Room, Put};
 ghost use Rattle.pam.specs.Pam as Pam;
-
-// The longest file that is read, in bytes: 3 MiB.
-pub const MAX_BLOCK: usize = 3145728;
-
-// No image is longer than this, in bytes: a header of 71 bytes, and 4 for each of 1024 times 1024 texels.
-pub const MAX_PAM: usize = 4194375;
-
-// What was written to an output: an image, or the line of a refusal.
-pub struct Shown {
-    pub refused: bool,
-    // In bytes.
-    pub len: usize,
-}
 
 // A line of a word and a number.
 fn put_number_line(out: &mut [u8], at: usize, word: &[u8], n: usize) -> usize
@@ -103,36 +87,5 @@ pub fn pam(block: &[u8], n: usize, choice: PaletteChoice, out: &mut [u8]) -> Cou
                 }
             }
         }
-    }
-}
-
-// Whether the input is too long to be read.
-fn is_too_long(input: &[u8]) -> bool
-    ensures { λ r. ⌜ r ≡ Pam.tooLong (now (input .entry)) ⌝ }
-{
-    MAX_BLOCK < input.len()
-}
-
-// Writes the picture as a PAM image, or else the line of the refusal, to an output that has room for each.
-pub fn show(input: &[u8], n: usize, choice: PaletteChoice, out: &mut [u8; MAX_PAM]) -> Shown
-    ensures { λ r. ⌜ r ≡ Pam.shownAs (Pam.shownOutcome (now (input .entry)) n choice) ⌝ }
-    ensures { λ r. ⌜ Writes (result (Pam.shownText (now (input .entry)) n choice)) (now (out .entry)) (result (r .len)) (now (out .exit)) ⌝ }
-    ensures { λ r. ⌜ Counts (r .len) (now (out .exit)) ⌝ }
-{
-    if is_too_long(input) {
-        return Shown {
-            refused: true,
-            len: put_refused(out, 0, 13, 0),
-        };
-    }
-    match pam(input, n, choice, out) {
-        Counted::Count(len) => Shown {
-            refused: false,
-            len,
-        },
-        Counted::Refused(refusal) => Shown {
-            refused: true,
-            len: put_refused(out, 0, refusal.number(), refusal.returned()),
-        },
     }
 }

@@ -17,8 +17,9 @@ use Rattle.places.specs.declared.PaletteChoice.the-variants as choices
 use Rattle.nitro.proofs.Answers.{entry-out}
 use Rattle.reading.proofs.Sizes.{textures-few, palettes-few}
 use Rattle.decode.specs.Pictures.{pictureOf}
+use Rattle.pam.specs.Pam.{pamOf}
 use Rattle.arguments.specs.Arguments.{capped}
-use Rattle.pam.specs.Pam.{pamOf, shownOutcome}
+use Rattle.show.specs.Show.{shownOf, shownOutput}
 
 abbrev pub cappedChoice : PaletteChoice → PaletteChoice
 cappedChoice choices.None = choices.None
@@ -45,6 +46,15 @@ module _ (b : List ℕ) (bytes : (k : ℕ) → getD b k 0 < 256) (n : ℕ) where
       go (choices.Number k) (whole c) e =
           rw (entry-capped _ _ (c .textures) n (textures-few b bytes e), entry-capped _ _ (c .palettes) k (palettes-few b bytes e))
 
-  pub shown-capped : (choice : PaletteChoice) → shownOutcome b (capped n) (cappedChoice choice) ≡ shownOutcome b n choice
-  unfolding shownOutcome pamOf pictureOf
-  shown-capped choice = rw (sources-capped choice)
+  pam-capped : (choice : PaletteChoice) → pamOf (capped n) (cappedChoice choice) (run readTex b) ≡ pamOf n choice (run readTex b)
+  unfolding pamOf pictureOf
+  pam-capped choice = rw (sources-capped choice)
+
+  pub shown-capped : (choice : PaletteChoice) → shownOf b (capped n) (cappedChoice choice) ≡ shownOf b n choice
+  unfolding shownOf
+  shown-capped choice = rw (pam-capped choice)
+
+  pub output-capped : (choice : PaletteChoice) (output : List ℕ)
+      → shownOutput b (capped n) (cappedChoice choice) output ≡ shownOutput b n choice output
+  unfolding shownOutput
+  output-capped choice output = rw (pam-capped choice)
