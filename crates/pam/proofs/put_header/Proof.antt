@@ -1,5 +1,6 @@
 -- `pam::put_header` meets its contract: the lines are put one behind the other. Assumes nothing.
 use Prim.Native.Nat.{ℕ}
+use mathlib.Core.Path.{_≡_}
 use mathlib.Core.List.{List, [], _∷_, _++_}
 use denote.Ref.{now}
 use borrow.Author.Needs.{needs}
@@ -28,6 +29,11 @@ word c = start c .args .params .0
 abbrev sizeLine : List ℕ → ℕ → List ℕ
 sizeLine name n = line (name ∷ decimal n ∷ [])
 
+-- the line of a number that has another name
+line-of : (name : List ℕ) {n m : ℕ} → n ≡ m → {entry exit : List ℕ} {at end : ℕ} → Put (sizeLine name n) entry at exit end
+    → Put (sizeLine name m) entry at exit end
+line-of name same p = rw same at p
+
 -- what is put there, by the word, and the room for what is behind it
 first : (c : tie.After-put) → Put (line (ascii "P7" ∷ [])) (now (start c .args .out)) (start c .args .at) (c .put .last .0) (c .put .result)
 unfolding ascii line
@@ -42,7 +48,7 @@ second : (c : tie.After-put-number-line)
     → let d = one c in
     Put (sizeLine (ascii "WIDTH") (width (word d))) (d .put .last .0) (d .put .result) (c .put-number-line .last .0) (c .put-number-line .result)
 unfolding ascii
-second c = rw (one c .before .before .before .before .width .ensures) at (c .put-number-line .ensures)
+second c = line-of _ (one c .before .before .before .before .width .ensures) (c .put-number-line .ensures)
 
 from-height : (c : tie.After-put-number-line)
     → Room (sizeLine (ascii "HEIGHT") (height (word (one c))) ++ lastLines) (c .put-number-line .last .0) (c .put-number-line .result)
@@ -54,7 +60,7 @@ third : (c : tie.After-put-number-line2)
     let line = sizeLine (ascii "HEIGHT") (height (word (one d))) in
     Put line entry (d .put-number-line .result) (c .put-number-line2 .last .0) (c .put-number-line2 .result)
 unfolding ascii
-third c = rw (one (two c) .before .before .before .height .ensures) at (c .put-number-line2 .ensures)
+third c = line-of _ (one (two c) .before .before .before .height .ensures) (c .put-number-line2 .ensures)
 
 width-requires : tie.Need-width-requires
 width-requires c κs = search needs
