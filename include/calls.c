@@ -579,7 +579,7 @@ static bool list_is(struct slice input, size_t out_len, uint32_t refusal, const 
     return got == refusal && out_is(out_len, written(refusal, lines)) && size_is(len, refusal == 0, lines.len);
 }
 
-/* ---- Blocks that are refused, by every call that takes a block. */
+/* ---- Blocks that are refused, by each call that is refused for them. */
 
 static void check_refused(struct slice b, uint32_t refusal, size_t needed, size_t short_answers)
 {

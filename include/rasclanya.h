@@ -178,7 +178,7 @@ uint32_t rasclanya_decode_texture(uint32_t word, const uint8_t *data1, size_t da
                                   uint8_t *out, size_t out_len, size_t *len);
 
 /* Reads the block and decodes its texture n, with its palette of number `palette` or with none.
-   Refusals: those of the reading, then 7, 8 (also where the texture needs no palette), 9, 10, 11. */
+   Refusals: those of the reading, then 7, 8 (also where the texture needs no palette), 9, 10, 12, 11. */
 uint32_t rasclanya_picture(const uint8_t *block, size_t block_len, size_t n, uint32_t has_palette, size_t palette,
                            uint8_t *out, size_t out_len, size_t *len, size_t *needed);
 

@@ -38,7 +38,8 @@
 //! # }
 //! ```
 //!
-//! A block that is still arriving is lent as far as it is there. An answer that is not [`Error::Short`] is the whole block's:
+//! A block that is still arriving is lent as far as it is there. An answer that is not [`Error::Short`] is the whole block's, of each call that reads
+//! a block but [`list`], which has a text for a part of a block too:
 //!
 //! ```
 //! # fn main() -> Result<(), Box<dyn std::error::Error>> {
@@ -667,7 +668,7 @@ pub fn decode_texture(
 /// [`TextureParams::picture_len`] says how long it is.
 ///
 /// Refusals, in this order: those of the reading, [`Error::TextureNumber`], [`Error::PaletteNumber`] (also where the texture needs no palette),
-/// [`Error::NoPalette`], [`Error::NoTexels`], [`Error::Output`].
+/// [`Error::NoPalette`], [`Error::NoTexels`], [`Error::ShortData`], [`Error::Output`].
 pub fn picture(
     block: &[u8],
     n: usize,

@@ -1,4 +1,4 @@
-// Writes what each call that takes a block answers for blocks that are still arriving, and what the fetching calls of `stream` answer, for
+// Writes what readings, records, parts and pictures answer for blocks that are still arriving, and what the fetching calls of `stream` answer, for
 // each case of its standard input.
 //
 // An answer is `ok` with its values, or `no` with the refusal's number and what is returned with it. Each call that writes gets an output

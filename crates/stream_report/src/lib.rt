@@ -42,7 +42,7 @@ fn paint_filled(sum: u64, block: &[u8], request: Request, mut out: [u8; 520], le
     paint_first(sum, block, request, &mut out, len)
 }
 
-// A line of prefixes: every call, on a block's first bytes alone.
+// A line of prefixes: the reading, both records, the parts and two pictures, on a block's first bytes alone.
 fn prefix(bytes: &[u8], k: usize, request: Request, out: [u8; 520]) {
     let n = request.texture;
     decimal(bytes.len() as u64);

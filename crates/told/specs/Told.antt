@@ -110,7 +110,7 @@ paletteName output p = p .name .0 ++ drop 16 output
 abbrev pub paletteOff : PaletteRecord → ℕ
 paletteOff p = p .off
 
--- A part by its place. The laws `data1-inside`, `data2-inside` and `pal-block-inside` of `capi` proofs/Places.antt say that every place that is told
+-- A part by its place. The laws `data1-inside`, `data2-inside` and `pal-block-inside` of `c_places` proofs/Places.antt say that every place that is told
 -- lies within its block, and has the part.
 abbrev pub pos : Place → ℕ
 pos place = place .pos
