@@ -6,28 +6,17 @@ use places::Located;
 use places::PaletteChoice;
 use places::locate;
 use text::put;
-use text::put_field;
 use text::put_number;
 ghost use Prim.Native.Nat.{min};
 ghost use mathlib.Core.Path.{_≡_};
-ghost use mathlib.Core.List.{[], _∷_};
 ghost use lib.ListN.{length};
 ghost use Rattle.output.specs.Output.{Writes};
 ghost use Rattle.errors.specs.Refusal.{countedOutcome};
 ghost use Rattle.scripts.specs.Script.{run};
 ghost use Rattle.reading.specs.Tex.{readTex};
-ghost use Rattle.text.specs.Text.{decimal, line};
+ghost use Rattle.text.specs.Text.{decimal};
 ghost use Rattle.text.specs.Put.{Room, Put};
 ghost use Rattle.pam.specs.Pam as Pam;
-
-// A line of a word and a number.
-fn put_number_line(out: &mut [u8], at: usize, word: &[u8], n: usize) -> usize
-    requires { ⌜ Room (line (now word ∷ decimal n ∷ [])) (now out) at ⌝ }
-    ensures { λ r. ⌜ Put (line (now (word .entry) ∷ decimal n ∷ [])) (now (out .entry)) at (now (out .exit)) r ⌝ }
-{
-    let at = put_field(out, at, word, b" ");
-    put_number(out, at, n, b"\n")
-}
 
 // The header of a picture of the word's size.
 fn put_header(out: &mut [u8], at: usize, params: TextureParams) -> usize
@@ -36,13 +25,13 @@ fn put_header(out: &mut [u8], at: usize, params: TextureParams) -> usize
 {
     let width = params.width();
     let height = params.height();
-    let at = put(out, at, b"P7\n");
-    let at = put_number_line(out, at, b"WIDTH", width as usize);
-    let at = put_number_line(out, at, b"HEIGHT", height as usize);
-    put(
+    let at = put(out, at, b"P7\nWIDTH ");
+    let at = put_number(out, at, width as usize, b"\nHEIGHT ");
+    put_number(
         out,
         at,
-        b"DEPTH 4\nMAXVAL 255\nTUPLTYPE RGB_ALPHA\nENDHDR\n",
+        height as usize,
+        b"\nDEPTH 4\nMAXVAL 255\nTUPLTYPE RGB_ALPHA\nENDHDR\n",
     )
 }
 
