@@ -1,7 +1,7 @@
 // Block-compressed textures: format 5.
+use modes::block_color;
 use paint::pixel_at;
 use paint::put_pixel;
-use texels::block_color;
 use util::view::view_u16;
 ghost use mathlib.Core.Path.{_≡_};
 ghost use Prim.Native.Nat.{_+_, _*_, _≤_};

@@ -1,6 +1,6 @@
 // One texel of each format, by the data and the texel's place.
+use modes::block_color;
 use texels::a3_to_a5;
-use texels::block_color;
 use texels::direct;
 use texels::index_at;
 use texels::indexed;

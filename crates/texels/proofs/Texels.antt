@@ -1,19 +1,23 @@
 -- The laws of texels. Assumes nothing.
-use Prim.Native.Nat.{ℕ, zero, suc, _+_, _-_, _*_, _/_, _%_, _^_, _≤_, _<_}
+use Prim.Native.Nat.{ℕ, suc, _+_, _-_, _*_, _/_, _%_, _^_, _≤_, _<_}
 use mathlib.Core.Path.{_≡_, refl, ap, _∙_}
 use mathlib.Core.Bool.{Bool}
 use mathlib.Core.List.{List, [], _∷_}
-use native.Mathlib.Nat.{add-zero, zero-add, mod-eq-of-lt, mul-comm}
+use native.Mathlib.Nat.{mod-eq-of-lt, mul-comm}
 use native.Mathlib.Omega.{arith}
 use lib.ListN.{length, take, drop, getD, set}
 use lib.Seq.{sets, drop-cons, take-all}
 use lib.Bits.{bitAnd, bitOr, and-mask, or-shifted}
 use borrow.Author.Count.{below-none, below-more}
-use Rattle.texels.specs.Texels.{pixel, paletteColor, texelBits, format1, indexed, formats2to4, opaque, mixChannel, mix, modeColor, blockColor, format5, format6, format7}
+use Rattle.texels.specs.Texels.{pixel, texelBits, format1, indexed, formats2to4, opaque, mix, modeColor, blockColor, format5, format6, format7}
 
 -- by cases, below four
 pub below-four : (P : ℕ → Type 0) → P 0 → P 1 → P 2 → P 3 → (k : ℕ) → k < 4 → P k
 below-four P p0 p1 p2 p3 = below-more P 3 (below-more P 2 (below-more P 1 (below-more P 0 (below-none P) p0) p1) p2) p3
+
+-- a level that a mask takes out
+pub level-bits : (n : ℕ) → bitAnd n 31 ≡ n % 2 ^ 5
+level-bits n = and-mask n 5
 
 -- a level, shifted left by k, with its high bits below: a widening
 pub shift-or : (x k j : ℕ) → x * 2 ^ k < 2 ^ 8 → x / 2 ^ j < 2 ^ k → bitOr (x * 2 ^ k % 2 ^ 8) (x / 2 ^ j) ≡ 2 ^ k * x + x / 2 ^ j
@@ -60,70 +64,6 @@ texel-byte texels n h =
     let at : n * 8 / 8 ≡ n = omega arith in
     let shift : n * 8 % 8 ≡ 0 = omega arith in
     rw (at, shift) (omega arith)
-
--- a mix with its two colours exchanged
-mix-turned : (x y : List ℕ) → mix 3 5 x y ≡ mix 5 3 y x
-unfolding mix
-mix-turned x y =
-    cc
-    (turned (getD x 0 0) (getD y 0 0), turned (getD x 1 0) (getD y 1 0), turned (getD x 2 0) (getD y 2 0), turned (getD x 3 0) (getD y 3 0))
-  where
-    turned : (a b : ℕ) → mixChannel 3 5 a b ≡ mixChannel 5 3 b a
-    turned a b = omega arith
-
--- colours by the same first index and mode
-pub mode-same : (pal : List ℕ) (p t : ℕ) {first first′ mode mode′ : ℕ} → first ≡ first′ → mode ≡ mode′
-    → modeColor pal p first mode t ≡ modeColor pal p first′ mode′ t
-mode-same pal p t e f = cc
-
--- the colours of a block's modes, as the code comes to them
-module _ (pal : List ℕ) (p first : ℕ) where
-  from : (i : ℕ) → opaque pal p 0 (first + i) ≡ opaque pal p first i
-  unfolding opaque
-  from i = rw zero-add
-
-  first-color : pixel (paletteColor pal p first) 31 ≡ opaque pal p first 0
-  unfolding opaque
-  first-color = rw add-zero
-
-  second-color : pixel (paletteColor pal p (first + 1)) 31 ≡ opaque pal p first 1
-  unfolding opaque
-  second-color = refl
-
-  pub mode0-plain : (t : ℕ) → t < 3 → opaque pal p 0 (first + t) ≡ modeColor pal p first 0 t
-  unfolding modeColor
-  mode0-plain zero h = from 0
-  mode0-plain (suc zero) h = from 1
-  mode0-plain (suc (suc zero)) h = from 2
-  mode0-plain (suc (suc (suc t))) h = absurd (omega arith)
-
-  pub mode1-plain : (t : ℕ) → t < 2 → opaque pal p 0 (first + t) ≡ modeColor pal p first 1 t
-  unfolding modeColor
-  mode1-plain zero h = from 0
-  mode1-plain (suc zero) h = from 1
-  mode1-plain (suc (suc t)) h = absurd (omega arith)
-
-  pub mode2-plain : (t : ℕ) → t < 4 → opaque pal p 0 (first + t) ≡ modeColor pal p first 2 t
-  unfolding modeColor
-  mode2-plain = below-four (λ t. opaque pal p 0 (first + t) ≡ modeColor pal p first 2 t) (from 0) (from 1) (from 2) (from 3)
-
-  pub mode3-plain : (t : ℕ) → t < 2 → opaque pal p 0 (first + t) ≡ modeColor pal p first 3 t
-  unfolding modeColor
-  mode3-plain zero h = from 0
-  mode3-plain (suc zero) h = from 1
-  mode3-plain (suc (suc t)) h = absurd (omega arith)
-
-  pub mode1-mixed : mix 1 1 (pixel (paletteColor pal p first) 31) (pixel (paletteColor pal p (first + 1)) 31) ≡ modeColor pal p first 1 2
-  unfolding modeColor
-  mode1-mixed = rw (first-color, second-color)
-
-  pub mode3-mixed : mix 3 5 (pixel (paletteColor pal p first) 31) (pixel (paletteColor pal p (first + 1)) 31) ≡ modeColor pal p first 3 3
-  unfolding modeColor
-  mode3-mixed = rw (first-color, second-color)
-
-  pub mode3-turned : mix 3 5 (pixel (paletteColor pal p (first + 1)) 31) (pixel (paletteColor pal p first) 31) ≡ modeColor pal p first 3 2
-  unfolding modeColor
-  mode3-turned = rw (first-color, second-color) (mix-turned (opaque pal p first 1) (opaque pal p first 0))
 
 -- every texel has four bytes
 pub pixel-four : (color alpha : ℕ) → length (pixel color alpha) ≡ 4

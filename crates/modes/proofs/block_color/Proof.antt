@@ -1,12 +1,12 @@
--- `texels::block_color` meets its contract: the colour is that of the extra's first index and mode. Assumes nothing.
+-- `modes::block_color` meets its contract: the colour is that of the extra's first index and mode. Assumes nothing.
 use native.Mathlib.Omega.{arith}
 use lib.Bits.{and-mask}
 use mathlib.Core.Path.{_∙_}
 use Rattle.texels.specs.Texels.{blockColor}
-use Rattle.texels.proofs.Texels.{mode-same}
+use Rattle.modes.proofs.Modes.{mode-same}
 use borrow.Author.Needs.{needs}
-use Rattle.texels.proofs.block_color.Statement.{statement}
-use Rattle.texels.proofs.block_color.Tie as tie
+use Rattle.modes.proofs.block_color.Statement.{statement}
+use Rattle.modes.proofs.block_color.Tie as tie
 
 cast-mode : tie.Need-cast-mode
 cast-mode c = search needs

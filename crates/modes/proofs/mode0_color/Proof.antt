@@ -1,12 +1,12 @@
--- `texels::mode0_color` meets its contract. Assumes nothing.
+-- `modes::mode0_color` meets its contract. Assumes nothing.
 use mathlib.Core.Path.{_≡_, _∙_}
 use native.Mathlib.Omega.{arith}
 use denote.Ref.{now}
 use borrow.Author.Needs.{needs}
 use Rattle.texels.specs.Texels.{modeColor}
-use Rattle.texels.proofs.Texels.{mode0-plain}
-use Rattle.texels.proofs.mode0_color.Statement.{statement}
-use Rattle.texels.proofs.mode0_color.Tie as tie
+use Rattle.modes.proofs.Modes.{mode0-plain}
+use Rattle.modes.proofs.mode0_color.Statement.{statement}
+use Rattle.modes.proofs.mode0_color.Tie as tie
 
 add-opaque : tie.Need-add-opaque
 add-opaque c = search needs

@@ -1,12 +1,12 @@
--- `texels::mode1_color` meets its contract. Assumes nothing.
+-- `modes::mode1_color` meets its contract. Assumes nothing.
 use mathlib.Core.Path.{_≡_, _∙_}
 use native.Mathlib.Omega.{arith}
 use denote.Ref.{now}
 use borrow.Author.Needs.{needs}
 use Rattle.texels.specs.Texels.{modeColor}
-use Rattle.texels.proofs.Texels.{mode1-plain, mode1-mixed}
-use Rattle.texels.proofs.mode1_color.Statement.{statement}
-use Rattle.texels.proofs.mode1_color.Tie as tie
+use Rattle.modes.proofs.Modes.{mode1-plain, mode1-mixed}
+use Rattle.modes.proofs.mode1_color.Statement.{statement}
+use Rattle.modes.proofs.mode1_color.Tie as tie
 
 add-opaque : tie.Need-add-opaque
 add-opaque c = search needs

@@ -1,9 +1,9 @@
--- `texels::opaque` meets its contract. Assumes nothing.
+-- `modes::opaque` meets its contract. Assumes nothing.
 use native.Mathlib.Nat.{zero-add}
 use borrow.Author.Needs.{needs}
 use Rattle.texels.specs.Texels as Texels
-use Rattle.texels.proofs.opaque.Statement.{statement}
-use Rattle.texels.proofs.opaque.Tie as tie
+use Rattle.modes.proofs.opaque.Statement.{statement}
+use Rattle.modes.proofs.opaque.Tie as tie
 
 palette-color-requires : tie.Need-palette-color-requires
 palette-color-requires c κs = search needs

@@ -1,9 +1,9 @@
--- `texels::mode_color` meets its contract. Assumes nothing.
+-- `modes::mode_color` meets its contract. Assumes nothing.
 use mathlib.Core.Path.{_≡_}
 use native.Mathlib.Omega.{arith}
 use borrow.Author.Needs.{needs}
-use Rattle.texels.proofs.mode_color.Statement.{statement}
-use Rattle.texels.proofs.mode_color.Tie as tie
+use Rattle.modes.proofs.mode_color.Statement.{statement}
+use Rattle.modes.proofs.mode_color.Tie as tie
 
 mode0-color-requires : tie.Need-mode0-color-requires
 mode0-color-requires c κs = search needs

@@ -1,11 +1,11 @@
--- `texels::mode2_color` meets its contract. Assumes nothing.
+-- `modes::mode2_color` meets its contract. Assumes nothing.
 use mathlib.Core.Path.{_∙_}
 use native.Mathlib.Omega.{arith}
 use denote.Ref.{now}
 use borrow.Author.Needs.{needs}
-use Rattle.texels.proofs.Texels.{mode2-plain}
-use Rattle.texels.proofs.mode2_color.Statement.{statement}
-use Rattle.texels.proofs.mode2_color.Tie as tie
+use Rattle.modes.proofs.Modes.{mode2-plain}
+use Rattle.modes.proofs.mode2_color.Statement.{statement}
+use Rattle.modes.proofs.mode2_color.Tie as tie
 
 add-opaque : tie.Need-add-opaque
 add-opaque c = search needs

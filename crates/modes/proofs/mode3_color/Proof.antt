@@ -1,11 +1,11 @@
--- `texels::mode3_color` meets its contract. Assumes nothing.
+-- `modes::mode3_color` meets its contract. Assumes nothing.
 use mathlib.Core.Path.{_≡_, _∙_}
 use native.Mathlib.Omega.{arith}
 use denote.Ref.{now}
 use borrow.Author.Needs.{needs}
-use Rattle.texels.proofs.Texels.{mode3-plain, mode3-mixed, mode3-turned}
-use Rattle.texels.proofs.mode3_color.Statement.{statement}
-use Rattle.texels.proofs.mode3_color.Tie as tie
+use Rattle.modes.proofs.Modes.{mode3-plain, mode3-mixed, mode3-turned}
+use Rattle.modes.proofs.mode3_color.Statement.{statement}
+use Rattle.modes.proofs.mode3_color.Tie as tie
 
 add-opaque : tie.Need-add-opaque
 add-opaque c = search needs

@@ -1,8 +1,8 @@
--- `texels::avg` meets its contract: each channel by itself. Assumes nothing.
+-- `modes::avg` meets its contract: each channel by itself. Assumes nothing.
 use borrow.Author.Needs.{needs}
 use Rattle.texels.specs.Texels.{pixel, mix}
-use Rattle.texels.proofs.avg.Statement.{statement}
-use Rattle.texels.proofs.avg.Tie as tie
+use Rattle.modes.proofs.avg.Statement.{statement}
+use Rattle.modes.proofs.avg.Tie as tie
 
 red-requires : tie.Need-red-requires
 red-requires c κs = search needs
