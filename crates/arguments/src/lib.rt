@@ -11,13 +11,13 @@ use places::PaletteChoice;
 // A number above every count of a block. An argument that spells a greater one is taken for it: both are refused alike.
 const MAX_NUMBER: usize = 65535;
 
-#[derive(Drop)]
+#[derive(Clone, Copy)]
 pub enum Parsed {
     Number(usize),
     Malformed,
 }
 
-#[derive(Drop)]
+#[derive(Clone, Copy)]
 pub enum ParsedChoice {
     Choice(PaletteChoice),
     Malformed,

@@ -9,7 +9,7 @@ use nds::texture_params::TextureParams;
 use places::PaletteOff;
 
 // What a direct decoding is given, but for its parts.
-#[derive(Drop)]
+#[derive(Clone, Copy)]
 pub struct Request {
     pub params: TextureParams,
     pub palette: PaletteOff,

@@ -6,13 +6,13 @@ ghost use Rattle.std.specs.Prelude.{◌≡◌};
 ghost use Rattle.errors.specs.Refusal.{refusal_number, refusal_returned};
 
 // Which of a block's two name lists.
-#[derive(Drop)]
+#[derive(Clone, Copy)]
 pub enum Kind {
     Texture,
     Palette,
 }
 
-#[derive(Drop)]
+#[derive(Clone, Copy)]
 pub enum Refusal {
     // The block is too short. At this length the take that failed passes: what document 01 calls the want.
     Short(usize),
@@ -34,13 +34,13 @@ pub enum Refusal {
     ShortData,
 }
 
-#[derive(Drop)]
+#[derive(Clone, Copy)]
 pub enum Status {
     Done,
     Refused(Refusal),
 }
 
-#[derive(Drop)]
+#[derive(Clone, Copy)]
 pub enum Counted {
     Count(usize),
     Refused(Refusal),

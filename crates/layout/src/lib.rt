@@ -11,7 +11,7 @@ use errors::Kind;
 use nds::texture_params::TextureParams;
 use util::view::{view_u16, view_u32};
 
-#[derive(Drop)]
+#[derive(Clone, Copy)]
 pub struct Header {
     pub texture_off: u16,
     pub tex_block_off: u32,
@@ -24,7 +24,7 @@ pub struct Header {
 }
 
 // Where a block's lists and data are, and how long the lists are.
-#[derive(Drop)]
+#[derive(Clone, Copy)]
 pub struct Layout {
     pub header: Header,
     pub textures: usize,

@@ -5,10 +5,10 @@ ghost use Rattle.nds.specs.Formats as Formats;
 use crate::texture_params::TextureParams;
 
 // The format's number. A texture word's is below 8.
-#[derive(Drop)]
+#[derive(Clone, Copy)]
 pub struct TextureFormat(pub u8);
 
-#[derive(Drop)]
+#[derive(Clone, Copy)]
 pub enum Alpha {
     // Every texel is solid.
     Opaque,
@@ -18,7 +18,7 @@ pub enum Alpha {
     Translucent,
 }
 
-#[derive(Drop)]
+#[derive(Clone, Copy)]
 pub enum AlphaDesc {
     Opaque,
     Transparent,
@@ -27,7 +27,7 @@ pub enum AlphaDesc {
     Translucent,
 }
 
-#[derive(Drop)]
+#[derive(Clone, Copy)]
 pub struct FormatDesc {
     pub requires_palette: bool,
     // Bits per texel.

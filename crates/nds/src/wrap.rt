@@ -2,7 +2,7 @@
 ghost use Rattle.std.specs.Prelude.{◌≡◌};
 ghost use Rattle.nds.specs.Wrap.{wrap_of};
 
-#[derive(Drop)]
+#[derive(Clone, Copy)]
 pub enum Wrap {
     Clamp,
     Repeat,

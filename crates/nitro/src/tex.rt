@@ -20,14 +20,14 @@ use nds::texture_params::TextureParams;
 use nds::wrap::Wrap;
 use reading::{Laid, lay_out};
 
-#[derive(Drop)]
+#[derive(Clone, Copy)]
 pub enum Reading {
     // How many textures and palettes the block has.
     Counts(usize, usize),
     Refused(Refusal),
 }
 
-#[derive(Drop)]
+#[derive(Clone, Copy)]
 pub struct TextureRecord {
     pub name: Name,
     pub params: TextureParams,
@@ -36,7 +36,7 @@ pub struct TextureRecord {
     pub alpha: Alpha,
 }
 
-#[derive(Drop)]
+#[derive(Clone, Copy)]
 pub struct PaletteRecord {
     pub name: Name,
     // In bytes, from the palette block's start.
@@ -44,14 +44,14 @@ pub struct PaletteRecord {
 }
 
 // Where the status is a refusal, the record beside it has a name of zeros and the word 0.
-#[derive(Drop)]
+#[derive(Clone, Copy)]
 pub struct TextureAnswer {
     pub status: Status,
     pub texture: TextureRecord,
 }
 
 // Where the status is a refusal, the record beside it has a name of zeros and the offset 0.
-#[derive(Drop)]
+#[derive(Clone, Copy)]
 pub struct PaletteAnswer {
     pub status: Status,
     pub palette: PaletteRecord,

@@ -17,28 +17,28 @@ use nds::texture_params::TextureParams;
 use reading::{Laid, lay_out};
 
 // The palette that a picture is to have.
-#[derive(Drop)]
+#[derive(Clone, Copy)]
 pub enum PaletteChoice {
     None,
     Number(usize),
 }
 
 // The offset of the palette that a picture has, in bytes, from the palette block's start.
-#[derive(Drop)]
+#[derive(Clone, Copy)]
 pub enum PaletteOff {
     None,
     At(u32),
 }
 
 // A part of a block: len bytes at pos.
-#[derive(Drop)]
+#[derive(Clone, Copy)]
 pub struct Place {
     pub pos: usize,
     pub len: usize,
 }
 
 // What a picture is made from, and where in the block it is.
-#[derive(Drop)]
+#[derive(Clone, Copy)]
 pub struct Places {
     pub params: TextureParams,
     pub data1: Place,
@@ -47,13 +47,13 @@ pub struct Places {
     pub pal_block: Place,
 }
 
-#[derive(Drop)]
+#[derive(Clone, Copy)]
 pub enum Located {
     Found(Places),
     Refused(Refusal),
 }
 
-#[derive(Drop)]
+#[derive(Clone, Copy)]
 pub enum Placed {
     Found(Place),
     Refused(Refusal),

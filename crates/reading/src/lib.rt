@@ -19,13 +19,13 @@ use nds::texture_params::TextureParams;
 use scripts::take;
 use util::view::{view_u16, view_u32};
 
-#[derive(Drop)]
+#[derive(Clone, Copy)]
 enum Headed {
     Found(Header),
     Refused(Refusal),
 }
 
-#[derive(Drop)]
+#[derive(Clone, Copy)]
 pub enum Laid {
     Found(Layout),
     Refused(Refusal),

@@ -9,14 +9,14 @@ use util::cur::{Peeked, peek_u8, peek_u32};
 pub const MAX_PART: usize = 4096;
 
 // A length and as many bytes of the list: the length, or that the list is cut or the length over its limit.
-#[derive(Drop)]
+#[derive(Clone, Copy)]
 pub enum Part {
     Whole(usize),
     Broken,
 }
 
 // What the next case comes to: whether its answers agree, or that the list is broken or at its end.
-#[derive(Drop)]
+#[derive(Clone, Copy)]
 pub enum Ran {
     Compared(bool),
     Broken,

@@ -17,7 +17,7 @@ pub const MAX_PAM: usize = 4194375;
 
 // What is shown of a file: the length of its image in bytes, a refusal's number with the value returned beside it, or that it is too long to
 // be read.
-#[derive(Drop)]
+#[derive(Clone, Copy)]
 pub enum Shown {
     Image(usize),
     Refused(usize, usize),

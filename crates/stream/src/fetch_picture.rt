@@ -12,7 +12,7 @@ use decode::picture::picture;
 use errors::Counted;
 use places::PaletteChoice;
 
-#[derive(Drop)]
+#[derive(Clone, Copy)]
 pub struct FetchedPicture {
     // The last answer.
     pub picture: Counted,

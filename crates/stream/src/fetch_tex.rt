@@ -5,7 +5,7 @@ ghost use Rattle.stream.specs.Fetch.{Fetched, reading_call};
 use crate::shortness::{Shortness, reading_shortness};
 use nitro::tex::{Reading, read_tex};
 
-#[derive(Drop)]
+#[derive(Clone, Copy)]
 pub struct FetchedTex {
     // The last answer.
     pub reading: Reading,

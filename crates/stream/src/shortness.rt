@@ -7,7 +7,7 @@ ghost use Rattle.stream.specs.Fetch.{shortness};
 use errors::{Counted, Refusal};
 use nitro::tex::Reading;
 
-#[derive(Drop)]
+#[derive(Clone, Copy)]
 pub(crate) enum Shortness {
     // The answer is short, and at this length the take that failed passes.
     Needs(usize),

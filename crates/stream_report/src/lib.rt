@@ -10,7 +10,7 @@ use report::{counted, decimal, number, text};
 use stream_sums::{add_parts, palette, reading, texture};
 
 // The picture that a case asks for.
-#[derive(Drop)]
+#[derive(Clone, Copy)]
 pub struct Request {
     pub texture: usize,
     pub choice: PaletteChoice,

@@ -7,20 +7,20 @@ ghost use Rattle.util.specs.Take.{length_of, taken_outcome, peeked_outcome, take
 use crate::view::{view_u8, view_u16, view_u32};
 
 // The length that a short take needs, what document 01 calls its want. It may exceed 64 bits: it is low, and 2^64 more where carry is set.
-#[derive(Drop)]
+#[derive(Clone, Copy)]
 pub struct Needed {
     pub low: usize,
     pub carry: bool,
 }
 
-#[derive(Drop)]
+#[derive(Clone, Copy)]
 pub enum Taken {
     // The bytes are there, and end before this position.
     Whole(usize),
     Short(Needed),
 }
 
-#[derive(Drop)]
+#[derive(Clone, Copy)]
 pub enum Peeked {
     Number(u32),
     Short(Needed),

@@ -1,18 +1,13 @@
 -- `nds::texture_params::bit` meets its contract. Assumes nothing.
+-- a number of one bit is 1 where it is not 0
 use Prim.Native.Nat.{ℕ, zero, suc, ◌+◌, ◌-◌, ◌/◌, ◌%◌, ◌^◌, ◌<◌}
 use mathlib.Core.Path.{◌≡◌, refl, ◌∙◌}
 use mathlib.Core.Bool.{not}
 use native.Mathlib.Omega.{arith}
 use lib.Dec.{eqb}
-use borrow.Author.Rules.{rules}
 use Rattle.util.proofs.Fields.{in_width}
-use Rattle.nds.proofs.texture_params.bit.Statement.{statement}
-use Rattle.nds.proofs.texture_params.bit.Tie as tie
+use Rattle.nds.proofs.texture_params.bit.Goals as goal
 
-add-bits-u32 : tie.Need-overflow-add-bits-u32
-add-bits-u32 c = search rules
-
--- a number of one bit is 1 where it is not 0
 not-zero : (x : ℕ) → x < 2 → not (eqb x 0) ≡ eqb x 1
 not-zero zero h = refl
 not-zero (suc zero) h = refl
@@ -21,15 +16,9 @@ not-zero (suc (suc x)) h = absurd (omega arith)
 one_bit : (k : ℕ) → k + 1 - k ≡ 1
 one_bit k = omega arith
 
-bits-u32-requires : tie.Need-bits-u32-requires
-bits-u32-requires c κs = search rules
-
-returns : tie.Need-returns
+pub returns : goal.returns
 returns c =
-    let a = c.before.args in
+    let a = c.args in
     let f = in_width 32 a.x a.k (a.k + 1) (omega arith) (omega arith) in
-    let e : c.bits-u32.result ≡ a.x / 2 ^ a.k % 2 = c.bits-u32.ensures ∙ (f ∙ rw (one_bit a.k)) in
+    let e : c.bits_u32.result ≡ a.x / 2 ^ a.k % 2 = c.bits_u32.ensures ∙ (f ∙ rw (one_bit a.k)) in
     rw e (not-zero (a.x / 2 ^ a.k % 2) (omega arith))
-
-pub bit-spec : {M : Type 1} → statement M
-bit-spec = tie.close (tie.spec add-bits-u32 bits-u32-requires returns)

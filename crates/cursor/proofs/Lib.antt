@@ -1,3 +1,0 @@
-pub mod AsksWith
-pub mod Cursor
-pub mod Walks
