@@ -3,9 +3,9 @@
 
 #![tactic(auto)]
 
+use report::STDIN_FILENO;
 use block_report::{palettes, part, refused, textures};
 use cursor::part_at;
-use libc::STDIN_FILENO;
 use name_report::texts;
 use nitro::tex;
 use nitro::tex::Reading;

@@ -2,8 +2,8 @@
 
 #![tactic(auto)]
 
+use report::STDOUT_FILENO;
 use errors::{Counted, Refusal, Status};
-use libc::STDOUT_FILENO;
 use name::Name;
 use nitro::tex;
 use nitro::tex::TextureRecord;

@@ -2,8 +2,13 @@
 
 #![tactic(auto)]
 
-use libc::{STDIN_FILENO, STDOUT_FILENO};
 use listing::{MAX_INPUT, MAX_LISTING};
+
+// The file descriptor of standard input.
+const STDIN_FILENO: i32 = 0;
+
+// The file descriptor of standard output.
+const STDOUT_FILENO: i32 = 1;
 
 // One byte more than may be read is enough to know that the input is too long.
 fn main() {

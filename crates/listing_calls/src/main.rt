@@ -16,9 +16,9 @@
 
 #![tactic(auto)]
 
+use report::STDIN_FILENO;
 use cases::{field, fill, named};
 use cursor::part_at;
-use libc::STDIN_FILENO;
 use listing_report::listed_to;
 use report::text;
 

@@ -19,12 +19,12 @@
 
 #![tactic(auto)]
 
+use report::STDIN_FILENO;
 use cases::{field, fill, named};
 use cursor::part_at;
 use decode::decode_texture::decode_texture;
 use decode::picture::picture;
 use errors::Counted;
-use libc::STDIN_FILENO;
 use nds::texture_params::TextureParams;
 use picture_report::written;
 use report::text;

@@ -2,8 +2,10 @@
 
 #![tactic(auto)]
 
-use libc::STDIN_FILENO;
 use util::cur::{Peeked, peek_u8, peek_u32};
+
+// The file descriptor of standard input.
+const STDIN_FILENO: i32 = 0;
 
 // The limit of a block, and of each part of a direct decoding.
 pub const MAX_PART: usize = 4096;

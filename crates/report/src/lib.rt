@@ -3,9 +3,14 @@
 #![tactic(auto)]
 
 use errors::{Counted, Refusal};
-use libc::STDOUT_FILENO;
 use nds::texture_formats::Alpha;
 use nds::wrap::Wrap;
+
+// The file descriptor of standard input.
+pub const STDIN_FILENO: i32 = 0;
+
+// The file descriptor of standard output.
+pub const STDOUT_FILENO: i32 = 1;
 
 // Prints bytes as they are.
 pub fn text(bytes: &[u8]) {

@@ -2,9 +2,8 @@
 
 #![tactic(auto)]
 
-use libc::STDOUT_FILENO;
 use nds::texture_params::TextureParams;
-use report::{alpha, decimal, text, wrap};
+use report::{STDOUT_FILENO, alpha, decimal, text, wrap};
 
 // Document 01's words, each single bit, each format with and without bit 29, each set of repeat and mirror bits, and some of no
 // particular kind.
