@@ -1,0 +1,31 @@
+-- `info_block::read` meets its contract: once the count is there, the list is read whole. Assumes nothing.
+-- the count is there
+use Prim.Native.Nat.{◌+◌, ◌≤◌}
+use mathlib.Core.Path.{ap, sym, ◌∙◌}
+use native.Mathlib.Omega.{arith}
+use lib.ListN.{length}
+use borrow.Author.Rules.{rules}
+use Rattle.util.specs.Outcome.{result}
+use Rattle.scripts.specs.Script.{outcome_of}
+use Rattle.scripts.proofs.Runs.{take_within, refused}
+use Rattle.info_block.proofs.Lists.{head_follows, counted}
+use Rattle.info_block.proofs.read.Goals as goal
+
+pub view_u8-c-requires : goal.view_u8-c-requires
+view_u8-c-requires c =
+    let there : let a = c.args in a.pos + 2 ≤ length a.block.now = omega (arith, take_within _ _ _ (rw c.in-Done.is at c.take.ensures)) in
+    omega (arith, there)
+
+pub returns-in-Refused : goal.returns-in-Refused
+returns-in-Refused c =
+    refused _ _ (head_follows _ _ _) _ _ c.in-Refused.refusal
+    (rw c.in-Refused.is at c.take.ensures)
+
+pub returns-in-Done : goal.returns-in-Done
+returns-in-Done c =
+    let there : let a = c.args in a.pos + 2 ≤ length a.block.now = omega (arith, take_within _ _ _ (rw c.in-Done.is at c.take.ensures)) in
+        let a = c.args in
+    let count = sym c.view_u8-c.ensures in
+    c.read_whole.ensures
+    ∙ ap (λ x. outcome_of x (λ list. result list.count))
+    (sym (counted a.kind a.pos a.block.now (there) ∙ rw count))

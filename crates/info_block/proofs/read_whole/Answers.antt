@@ -1,0 +1,77 @@
+-- `info_block::read_whole` meets its contract: each return is an outcome of `whole_list`. Assumes nothing.
+-- the list is there
+use Prim.Native.Nat.{◌+◌, ◌≤◌}
+use mathlib.Core.Path.{sym, ◌∙◌}
+use native.Mathlib.Omega.{arith}
+use lib.ListN.{length}
+use borrow.Author.Rules.{rules}
+use Rattle.info_block.specs.InfoBlock.{list_length}
+use Rattle.scripts.proofs.Runs.{take_within, whole_outcome, fault_outcome, refused}
+use Rattle.info_block.proofs.Lists.{data_small, list_follows, dummy_bad, size_bad, list_passes}
+use Rattle.info_block.proofs.read_whole.Goals as goal
+
+pub overflow_mul-size : goal.overflow_mul-size
+overflow_mul-size c = omega (arith, data_small c.args.kind _ c.datum_size-size.ensures c.requires.1)
+
+pub overflow_add-c-2 : goal.overflow_add-c-2
+overflow_add-c-2 c = omega (arith, data_small c.args.kind _ c.datum_size-size.ensures c.requires.1)
+
+pub overflow_add-c-3 : goal.overflow_add-c-3
+overflow_add-c-3 c = omega (arith, data_small c.args.kind _ c.datum_size-size.ensures c.requires.1)
+
+pub take-requires : goal.take-requires
+take-requires c = omega (arith, data_small c.args.kind _ c.datum_size-size.ensures c.requires.1)
+
+pub view_u8-dummy-requires : goal.view_u8-dummy-requires
+view_u8-dummy-requires c =
+    let there : let a = c.args in a.pos + list_length a.kind a.c ≤ length a.block.now = omega (
+      arith,
+      rw c.datum_size-size.ensures
+          at (take_within _ _ _ (rw c.in-Done.is at c.take.ensures)),
+    ) in
+    omega (arith, there)
+
+pub view_u16-size_of_datum-requires : goal.view_u16-size_of_datum-requires
+view_u16-size_of_datum-requires c =
+    let there : let a = c.args in a.pos + list_length a.kind a.c ≤ length a.block.now = omega (
+      arith,
+      rw c.datum_size-size.ensures
+          at (take_within _ _ _ (rw c.in-Done.is at c.take.ensures)),
+    ) in
+    omega (arith, there)
+
+pub returns-then-dummy-ne0 : goal.returns-then-dummy-ne0
+returns-then-dummy-ne0 c =
+    let there : let a = c.args in a.pos + list_length a.kind a.c ≤ length a.block.now = omega (
+      arith,
+      rw c.datum_size-size.ensures
+          at (take_within _ _ _ (rw c.in-Done.is at c.take.ensures)),
+    ) in
+        fault_outcome _ (dummy_bad _ _ _ _ (there) (λ e. c.if-dummy-ne0.true (c.view_u8-dummy.ensures ∙ e)))
+
+pub returns-then-size_of_datum-size : goal.returns-then-size_of_datum-size
+returns-then-size_of_datum-size c =
+    let there : let a = c.args in a.pos + list_length a.kind a.c ≤ length a.block.now = omega (
+      arith,
+      rw c.datum_size-size.ensures
+          at (take_within _ _ _ (rw c.in-Done.is at c.take.ensures)),
+    ) in
+        fault_outcome _
+    (size_bad _ _ _ _ (there) (sym c.view_u8-dummy.ensures ∙ c.if-dummy-ne0.false)
+    (λ e. c.if-size_of_datum-size.true (c.view_u16-size_of_datum.ensures ∙ (e ∙ sym c.datum_size-size.ensures))))
+
+pub returns-in-Refused : goal.returns-in-Refused
+returns-in-Refused c =
+    refused _ _ (list_follows _ _ _ _ (rw c.datum_size-size.ensures)) _ _ c.in-Refused.refusal
+    (rw c.in-Refused.is at c.take.ensures)
+
+pub returns-else-size_of_datum-size : goal.returns-else-size_of_datum-size
+returns-else-size_of_datum-size c =
+    let there : let a = c.args in a.pos + list_length a.kind a.c ≤ length a.block.now = omega (
+      arith,
+      rw c.datum_size-size.ensures
+          at (take_within _ _ _ (rw c.in-Done.is at c.take.ensures)),
+    ) in
+        whole_outcome _
+    (list_passes _ _ _ _ (there) (sym c.view_u8-dummy.ensures ∙ c.if-dummy-ne0.false)
+    (sym c.view_u16-size_of_datum.ensures ∙ (c.if-size_of_datum-size.false ∙ c.datum_size-size.ensures)))

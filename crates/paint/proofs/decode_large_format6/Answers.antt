@@ -1,0 +1,15 @@
+-- `paint::decode_large_format6` meets its contract: the texels are in the table of all bytes. Assumes nothing.
+use mathlib.Core.Path.{refl, ◌∙◌}
+use borrow.Author.Rules.{rules}
+use Rattle.texels.specs.Texels.{a5i3, format6}
+use Rattle.paint.proofs.Quads.{painted_same}
+use Rattle.paint.proofs.Tables.{byte_texel}
+use Rattle.texels.proofs.Texels.{pixel_four}
+use Rattle.paint.proofs.decode_large_format6.Goals as goal
+
+pub returns : goal.returns
+unfolding format6
+returns c =
+    let a = c.args in
+    let texel = byte_texel (a5i3 a.pal.now a.off) (λ k. pixel_four _ _) _ _ c.all_bytes-bytes.ensures c.decode_small_format6.ensures in
+    c.put_indexed.ensures ∙ painted_same _ _ _ (λ i. texel a.data1.now i (c.shared_slice_known-1.given i).fits) refl
