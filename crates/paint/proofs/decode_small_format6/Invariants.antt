@@ -19,6 +19,3 @@ invariant-loop-n l = (l.n ≤ l.num_texels) × Painting (format6 l.data1 l.pal l
 
 abbrev pub decreases-loop-n : goal.decreases-loop-n
 decreases-loop-n l = l.num_texels - l.n
-
-abbrev start : tie.At-loop invariant-loop decreases-loop → tie.Start invariant-loop decreases-loop
-start c = c.before.before.before.before.before.before.before

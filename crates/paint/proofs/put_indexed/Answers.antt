@@ -40,5 +40,5 @@ shape_of-out c = wrote_length c.loop-n.invariant.1
 
 pub returns : goal.returns
 returns c =
-    let done : c.loop-n.n ≡ c.args.num-texels = omega arith in
+    let done : c.loop-n.n ≡ c.args.num_texels = omega arith in
     rw (← done) (painted_all _ _ c.loop-n.invariant.1)

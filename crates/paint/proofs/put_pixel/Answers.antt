@@ -16,4 +16,4 @@ pub bounds-out-at-4 : goal.bounds-out-at-4
 bounds-out-at-4 c = simp length-set (omega arith)
 
 pub returns : goal.returns
-returns c = put_four c.args.out.now (4 * c.args.n) c.args.t3 (search rules)
+returns c = put_four c.args.out.now (4 * c.args.n) c.args.pixel (search rules)
