@@ -1,0 +1,15 @@
+-- `compressed::block_colors` meets its contract: the loop writes texel after texel. Assumes nothing.
+use Prim.Native.Nat.{◌-◌, ◌≤◌}
+use mathlib.Core.Path.{◌≡◌}
+use native.Mathlib.Omega.{arith}
+use Rattle.output.proofs.Outputs.{wrote_length}
+use Rattle.texels.specs.Texels.{block_color}
+use Rattle.paint.proofs.Quads.{Painting, paint_none, paint_more, painted_all}
+use Rattle.texels.proofs.Texels.{block_four}
+use Rattle.compressed.proofs.block_colors.Given as goal
+
+abbrev pub invariant-loop-texel : goal.invariant-loop-texel
+invariant-loop-texel l = (l.texel ≤ 4) × Painting (block_color l.pal l.off l.extra) l.texel l.initial.table l.table
+
+abbrev pub decreases-loop-texel : goal.decreases-loop-texel
+decreases-loop-texel l = 4 - l.texel

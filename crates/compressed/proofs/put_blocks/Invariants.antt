@@ -1,0 +1,16 @@
+-- `compressed::put_blocks` meets its contract: the loop writes block after block, four rows of texels at once. Assumes nothing.
+use Prim.Native.Nat.{ℕ, ◌-◌, ◌<◌}
+use mathlib.Core.Path.{◌≡◌, refl}
+use native.Mathlib.Omega.{arith}
+use lib.ListN.{length, get_or}
+use borrow.Author.Rules.{rules}
+use Rattle.compressed.specs.Blocks.{rows_texel}
+use Rattle.compressed.proofs.Rows.{BlocksDone, blocks_none, blocks_more, blocks_all, length_row_bytes, row_texels}
+use Rattle.compressed.proofs.put_blocks.Given as goal
+
+abbrev pub invariant-loop-i : goal.invariant-loop-i
+invariant-loop-i l =
+    (length l.table ≡ 16) × BlocksDone l.width (rows_texel l.width l.data1 l.data2 l.pal l.off l.row) l.i l.initial.out l.out
+
+abbrev pub decreases-loop-i : goal.decreases-loop-i
+decreases-loop-i l = l.num_blocks_x - l.i

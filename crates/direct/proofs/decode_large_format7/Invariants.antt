@@ -1,0 +1,19 @@
+-- `direct::decode_large_format7` meets its contract: the loop writes texel after texel. Assumes nothing.
+-- where the function begins
+use Prim.Native.Nat.{◌+◌, ◌-◌, ◌*◌, ◌≤◌}
+use mathlib.Core.Path.{◌≡◌, ap, ◌∙◌}
+use native.Mathlib.Omega.{arith}
+use lib.ListN.{length}
+use borrow.Author.Rules.{rules}
+use Rattle.output.proofs.Outputs.{wrote_length}
+use Rattle.texels.specs.Texels.{direct, format7}
+use Rattle.paint.proofs.Quads.{Painting, paint_none, paint_more, painted_all}
+use Rattle.texels.proofs.Texels.{format7_four}
+use Rattle.direct.proofs.Words.{number_two}
+use Rattle.direct.proofs.decode_large_format7.Given as goal
+
+abbrev pub invariant-loop-n : goal.invariant-loop-n
+invariant-loop-n l = (l.n ≤ l.num_texels) × Painting (format7 l.data1) l.n l.initial.out l.out
+
+abbrev pub decreases-loop-n : goal.decreases-loop-n
+decreases-loop-n l = l.num_texels - l.n

@@ -1,0 +1,13 @@
+-- `direct::low_words` meets its contract: the loop writes word after word. Assumes nothing.
+use Prim.Native.Nat.{◌-◌, ◌≤◌}
+use native.Mathlib.Omega.{arith}
+use borrow.Author.Rules.{rules}
+use Rattle.direct.specs.Words.{low_word}
+use Rattle.paint.proofs.Tables.{TabledTo, tabled_none, tabled_more, tabled_all}
+use Rattle.direct.proofs.low_words.Given as goal
+
+abbrev pub invariant-loop-i : goal.invariant-loop-i
+invariant-loop-i l = (l.i ≤ 256) × TabledTo low_word l.i l.words
+
+abbrev pub decreases-loop-i : goal.decreases-loop-i
+decreases-loop-i l = 256 - l.i
