@@ -1,0 +1,16 @@
+-- `nitro::tex::pal_block` meets its contract: the reading took the part that is handed out. Assumes nothing.
+use mathlib.Core.Path.{◌∙◌}
+use borrow.Author.Rules.{rules}
+use Rattle.nitro.proofs.Answers.{laid_pal_block, no_pal_block}
+use Rattle.nitro.proofs.tex.pal_block.Goals as goal
+
+pub returns-in-Found : goal.returns-in-Found
+returns-in-Found c =
+    c.part_at.ensures
+    ∙ rw c.pal_block_len.ensures.value
+    (laid_pal_block _ (record { is = rw c.in-Found.is at c.lay_out.ensures }))
+
+pub returns-in-Refused : goal.returns-in-Refused
+returns-in-Refused c =
+    let r = c.enum_told-1.given in
+    no_pal_block _ r.0.0 (rw r.1 at c.lay_out.ensures)

@@ -1,0 +1,33 @@
+-- `reading::read_textures` meets its contract: the list that was read stands in the block, and its textures are read from there.
+-- Assumes nothing.
+-- the list, by the count that the code has
+use mathlib.Core.Path.{◌≡◌, ap, ◌∙◌}
+use lib.ListN.{length}
+use borrow.Author.Rules.{rules}
+use Rattle.util.specs.Outcome.{result}
+use Rattle.errors.specs.declared.Kind.TheVariants.{Texture}
+use Rattle.scripts.specs.Script.{run, whole, outcome_of}
+use Rattle.info_block.specs.InfoBlock.{list_at, name_list}
+use Rattle.scripts.proofs.Runs.{refused}
+use Rattle.info_block.proofs.Lists.{name_listed, list_counted}
+use Rattle.reading.proofs.Readings.{textures_follow, textures_read}
+use Rattle.reading.proofs.read_textures.Goals as goal
+
+pub take_all_data-requires : goal.take_all_data-requires
+take_all_data-requires c =
+    let list : let a = c.args in
+    let at = a.header.texture_off in
+    run (name_list Texture at) a.block.now ≡ whole (list_at Texture at c.in-Count.count a.block.now) = list_counted Texture _ _ (rw c.in-Count.is at c.read.ensures) in
+    (name_listed Texture _ _ (list)).within
+
+pub returns-in-Refused : goal.returns-in-Refused
+returns-in-Refused c =
+    refused _ _ (textures_follow _ _) _ _ c.in-Refused.refusal
+    (rw c.in-Refused.is at c.read.ensures)
+
+pub returns-in-Count : goal.returns-in-Count
+returns-in-Count c =
+    let list : let a = c.args in
+    let at = a.header.texture_off in
+    run (name_list Texture at) a.block.now ≡ whole (list_at Texture at c.in-Count.count a.block.now) = list_counted Texture _ _ (rw c.in-Count.is at c.read.ensures) in
+    c.take_all_data.ensures ∙ ap (λ x. outcome_of x (λ found. result (length found))) (textures_read _ _ (list))
