@@ -11,6 +11,4 @@ returns-in-Found c =
     (laid_pal_block _ (record { is = rw c.in-Found.is at c.lay_out.ensures }))
 
 pub returns-in-Refused : goal.returns-in-Refused
-returns-in-Refused c =
-    let r = c.enum_told-1.given in
-    no_pal_block _ r.0.0 (rw r.1 at c.lay_out.ensures)
+returns-in-Refused c =     no_pal_block _ c.in-Refused.field-0 (rw c.in-Refused.is at c.lay_out.ensures)
