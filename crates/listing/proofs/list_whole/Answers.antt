@@ -1,0 +1,30 @@
+-- `listing::list_whole` meets its contract: every listing has room, so the call is never declined. Assumes nothing.
+use mathlib.Core.Path.{◌≡◌}
+use native.Mathlib.Omega.{arith}
+use lib.ListN.{length}
+use borrow.Author.Rules.{rules}
+use Rattle.util.specs.Outcome.{result}
+use Rattle.errors.specs.Refusal.{counted_outcome}
+use Rattle.errors.proofs.Refusals.{refusal_not}
+use Rattle.output.proofs.Outputs.{Wrote, wrote_counts, writes_whole}
+use Rattle.listing.specs.Listing.{listing_text}
+use Rattle.listing.proofs.Bounds.{listing_fits}
+use Rattle.listing.proofs.list_whole.Goals as goal
+
+pub returns-in-Count : goal.returns-in-Count
+returns-in-Count c =
+    let written : let text = listing_text c.args.input.now in
+    (counted_outcome c.list.result ≡ result (length text)) × Wrote text c.args.out.now (length text) c.list.new.out = writes_whole _ _ (omega (arith, listing_fits c.args.input.now (λ k. omega (arith, c.shared_slice_known-1.given k)))) c.list.ensures in
+        let (told, wrote) = written in
+    let text = listing_text c.args.input.now in
+    let same : c.in-Count.len ≡ length text = cc (rw c.in-Count.is at told) in
+    record {
+      value = rw c.in-Count.is at c.list.ensures;
+      in_bounds = rw same (wrote_counts wrote);
+    }
+
+pub returns-in-Refused : goal.returns-in-Refused
+returns-in-Refused c =
+    let written : let text = listing_text c.args.input.now in
+    (counted_outcome c.list.result ≡ result (length text)) × Wrote text c.args.out.now (length text) c.list.new.out = writes_whole _ _ (omega (arith, listing_fits c.args.input.now (λ k. omega (arith, c.shared_slice_known-1.given k)))) c.list.ensures in
+    absurd (refusal_not c.in-Refused.field-0 (rw c.in-Refused.is at (written).0))

@@ -1,0 +1,27 @@
+-- `listing::put_list` meets its contract: behind the heading the loop puts line after line. Assumes nothing.
+-- n lines are there, behind where the loop began
+-- the heading
+-- the lines have room behind it
+-- and after the loop all of them are there
+use Prim.Native.Nat.{ℕ, ◌-◌, ◌≤◌, ◌<◌}
+use mathlib.Core.List.{[], ◌∷◌}
+use mathlib.Core.Path.{◌≡◌}
+use native.Mathlib.Omega.{arith}
+use borrow.Author.Rules.{rules}
+use Rattle.scripts.specs.Script.{run}
+use Rattle.output.specs.Output.{pieces}
+use Rattle.reading.specs.Tex.{read_tex}
+use Rattle.layout.specs.Positions.{count_of}
+use Rattle.text.specs.Text.{decimal, line}
+use Rattle.text.specs.Put.{Room, Put}
+use Rattle.listing.specs.Lists.{list_word, entry_line, list_of}
+use Rattle.text.proofs.Puts.{put_none, put_then, put_length, room_first, room_then}
+use Rattle.listing.proofs.Lists.{room_line, put_line}
+use Rattle.listing.proofs.put_list.Given as goal
+
+abbrev pub invariant-loop-n : goal.invariant-loop-n
+invariant-loop-n l =
+    (l.n ≤ l.count) × Put (pieces (entry_line l.kind (run read_tex l.block)) l.n) l.initial.out l.initial.at l.out l.at
+
+abbrev pub decreases-loop-n : goal.decreases-loop-n
+decreases-loop-n l = l.count - l.n
