@@ -31,10 +31,8 @@ pub put_entry-at-requires : goal.put_entry-at-requires
 unfolding list_of
 put_entry-at-requires c =
     let counted : c.count_of-count.result ≡ (count_of c.args.kind c.args.layout) = c.count_of-count.ensures in
-    let heading : let head = c.put_heading-at in
-    Put (line (list_word c.args.kind ∷ decimal (count_of c.args.kind c.args.layout) ∷ [])) c.args.out.now c.args.at head.new.0 head.result = rw (counted) at c.put_heading-at.ensures in
-    let behind : let head = c.put_heading-at in
-    Room (pieces (entry_line c.args.kind (run read_tex c.args.block.now)) (count_of c.args.kind c.args.layout)) head.new.0 head.result = room_then (heading) c.requires.1 in
+    let heading : Put (line (list_word c.args.kind ∷ decimal (count_of c.args.kind c.args.layout) ∷ [])) c.args.out.now c.args.at c.put_heading-at.new.out c.put_heading-at.result = rw (counted) at c.put_heading-at.ensures in
+    let behind : Room (pieces (entry_line c.args.kind (run read_tex c.args.block.now)) (count_of c.args.kind c.args.layout)) c.put_heading-at.new.out c.put_heading-at.result = room_then (heading) c.requires.1 in
         let below : c.loop-n.n < (count_of c.args.kind c.args.layout) = omega (arith, counted, c.loop-n-test.true) in
     (c.requires.0, (below, room_line _ _ _ below (behind) c.loop-n.invariant.1))
 
@@ -45,8 +43,7 @@ pub shape_of-out : goal.shape_of-out
 unfolding list_of
 shape_of-out c =
     let counted : c.count_of-count.result ≡ (count_of c.args.kind c.args.layout) = c.count_of-count.ensures in
-    let heading : let head = c.put_heading-at in
-    Put (line (list_word c.args.kind ∷ decimal (count_of c.args.kind c.args.layout) ∷ [])) c.args.out.now c.args.at head.new.0 head.result = rw (counted) at c.put_heading-at.ensures in
+    let heading : Put (line (list_word c.args.kind ∷ decimal (count_of c.args.kind c.args.layout) ∷ [])) c.args.out.now c.args.at c.put_heading-at.new.out c.put_heading-at.result = rw (counted) at c.put_heading-at.ensures in
     let whole : let text = list_of c.args.kind (run read_tex c.args.block.now) (count_of c.args.kind c.args.layout) in
     Put text c.args.out.now c.args.at c.loop-n.out c.loop-n.at = let e : c.loop-n.n ≡ (count_of c.args.kind c.args.layout) = omega (arith, counted) in
     put_then (heading) (rw e at c.loop-n.invariant.1) in
@@ -56,8 +53,7 @@ pub returns : goal.returns
 unfolding list_of
 returns c =
     let counted : c.count_of-count.result ≡ (count_of c.args.kind c.args.layout) = c.count_of-count.ensures in
-    let heading : let head = c.put_heading-at in
-    Put (line (list_word c.args.kind ∷ decimal (count_of c.args.kind c.args.layout) ∷ [])) c.args.out.now c.args.at head.new.0 head.result = rw (counted) at c.put_heading-at.ensures in
+    let heading : Put (line (list_word c.args.kind ∷ decimal (count_of c.args.kind c.args.layout) ∷ [])) c.args.out.now c.args.at c.put_heading-at.new.out c.put_heading-at.result = rw (counted) at c.put_heading-at.ensures in
     let whole : let text = list_of c.args.kind (run read_tex c.args.block.now) (count_of c.args.kind c.args.layout) in
     Put text c.args.out.now c.args.at c.loop-n.out c.loop-n.at = let e : c.loop-n.n ≡ (count_of c.args.kind c.args.layout) = omega (arith, counted) in
     put_then (heading) (rw e at c.loop-n.invariant.1) in
