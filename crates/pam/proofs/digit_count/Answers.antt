@@ -8,4 +8,4 @@ use Rattle.pam.proofs.digit_count.Goals as goal
 pub returns : goal.returns
 returns c =
     let told = c.decimal.ensures in
-    told.0.1 ∙ ap length (told.1.1 ∙ decimal_digits _ _ told.1.0)
+    told.in_bounds.1 ∙ ap length (told.digits ∙ decimal_digits _ _ told.len)

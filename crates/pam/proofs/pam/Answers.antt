@@ -29,9 +29,9 @@ pub put_header-requires : goal.put_header-requires
 put_header-requires c =
     let place : (c.least-at.result) ≡ min (length (header_text c.in-Found.places.params.0)) (length (c.args.out.now)) = c.least-at.ensures ∙ ap (λ (n : ℕ). min n (length (c.args.out.now))) c.header_len.ensures in
     let found : result (sources_at c.args.block.now c.in-Found.places) ≡ sources_of c.args.n c.args.choice (run read_tex c.args.block.now) = located_sources _ _ _ (ap located_outcome (sym c.in-Found.is) ∙ c.locate.ensures) in
-    let is-picture : {o : Outcome ℕ} → counted_outcome c.picture_at.result ≡ o
-    → Writes (picture_of c.args.n c.args.choice (run read_tex c.args.block.now)) (mid_of (c.least-at.result) (length (c.args.out.now) - (c.least-at.result)) (c.args.out.now)) o c.picture_at.new.out = λ e. rw (picture_found _ _ _ (found), ← e) c.picture_at.ensures in
-    let told : Writes (picture_of c.args.n c.args.choice (run read_tex c.args.block.now)) (mid_of (c.least-at.result) (length (c.args.out.now) - (c.least-at.result)) (c.args.out.now)) (result c.in-Count.len) c.picture_at.new.out = is-picture (ap counted_outcome c.in-Count.is) in
+    let is-picture : (o : Outcome ℕ) → counted_outcome c.picture_at.result ≡ o
+    → Writes (picture_of c.args.n c.args.choice (run read_tex c.args.block.now)) (mid_of (c.least-at.result) (length (c.args.out.now) - (c.least-at.result)) (c.args.out.now)) o c.picture_at.new.out = λ o e. rw (picture_found _ _ _ (found), ← e) c.picture_at.ensures in
+    let told : Writes (picture_of c.args.n c.args.choice (run read_tex c.args.block.now)) (mid_of (c.least-at.result) (length (c.args.out.now) - (c.least-at.result)) (c.args.out.now)) (result c.in-Count.len) c.picture_at.new.out = is-picture _ (ap counted_outcome c.in-Count.is) in
     let written : Behind (header_text c.in-Found.places.params.0) (c.args.out.now) (picture_of c.args.n c.args.choice (run read_tex c.args.block.now)) (place) c.in-Count.len = behind (header_text c.in-Found.places.params.0) (c.args.out.now) (picture_of c.args.n c.args.choice (run read_tex c.args.block.now)) (place) (told) in
     let some : 0 < length (written).picture = picture_some _ _ _ (found) (written).made_is in
         header_room (header_text c.in-Found.places.params.0) (c.args.out.now) (picture_of c.args.n c.args.choice (run read_tex c.args.block.now)) (place) (told) (written) (some)
@@ -40,13 +40,13 @@ pub overflow_add-whole : goal.overflow_add-whole
 overflow_add-whole c =
     let place : (c.least-at.result) ≡ min (length (header_text c.in-Found.places.params.0)) (length (c.args.out.now)) = c.least-at.ensures ∙ ap (λ (n : ℕ). min n (length (c.args.out.now))) c.header_len.ensures in
     let found : result (sources_at c.args.block.now c.in-Found.places) ≡ sources_of c.args.n c.args.choice (run read_tex c.args.block.now) = located_sources _ _ _ (ap located_outcome (sym c.in-Found.is) ∙ c.locate.ensures) in
-    let is-picture : {o : Outcome ℕ} → counted_outcome c.picture_at.result ≡ o
-    → Writes (picture_of c.args.n c.args.choice (run read_tex c.args.block.now)) (mid_of (c.least-at.result) (length (c.args.out.now) - (c.least-at.result)) (c.args.out.now)) o c.picture_at.new.out = λ e. rw (picture_found _ _ _ (found), ← e) c.picture_at.ensures in
-    let told : Writes (picture_of c.args.n c.args.choice (run read_tex c.args.block.now)) (mid_of (c.least-at.result) (length (c.args.out.now) - (c.least-at.result)) (c.args.out.now)) (result c.in-Count.len) c.picture_at.new.out = is-picture (ap counted_outcome c.in-Count.is) in
+    let is-picture : (o : Outcome ℕ) → counted_outcome c.picture_at.result ≡ o
+    → Writes (picture_of c.args.n c.args.choice (run read_tex c.args.block.now)) (mid_of (c.least-at.result) (length (c.args.out.now) - (c.least-at.result)) (c.args.out.now)) o c.picture_at.new.out = λ o e. rw (picture_found _ _ _ (found), ← e) c.picture_at.ensures in
+    let told : Writes (picture_of c.args.n c.args.choice (run read_tex c.args.block.now)) (mid_of (c.least-at.result) (length (c.args.out.now) - (c.least-at.result)) (c.args.out.now)) (result c.in-Count.len) c.picture_at.new.out = is-picture _ (ap counted_outcome c.in-Count.is) in
     let written : Behind (header_text c.in-Found.places.params.0) (c.args.out.now) (picture_of c.args.n c.args.choice (run read_tex c.args.block.now)) (place) c.in-Count.len = behind (header_text c.in-Found.places.params.0) (c.args.out.now) (picture_of c.args.n c.args.choice (run read_tex c.args.block.now)) (place) (told) in
     let some : 0 < length (written).picture = picture_some _ _ _ (found) (written).made_is in
         let sum = headed_count (header_text c.in-Found.places.params.0) (c.args.out.now) (picture_of c.args.n c.args.choice (run read_tex c.args.block.now)) (place) (told) (written) (some) c.put_header.ensures in
-    omega (arith, sum, c.well-formed)
+    omega (arith, sum, c.well_formed)
 
 pub returns-in-Refused : goal.returns-in-Refused
 returns-in-Refused c =
@@ -58,18 +58,18 @@ returns-in-Refused-picture_at c =
     let found : result (sources_at c.args.block.now c.in-Found.places) ≡ sources_of c.args.n c.args.choice (run read_tex c.args.block.now) = located_sources _ _ _ (ap located_outcome (sym c.in-Found.is) ∙ c.locate.ensures) in
     let image : pam_of c.args.n c.args.choice (run read_tex c.args.block.now) ≡ headed (header_text c.in-Found.places.params.0) (picture_of c.args.n c.args.choice (run read_tex c.args.block.now)) = image_found _ _ _ (found) in
     let place : (c.least-at.result) ≡ min (length (header_text c.in-Found.places.params.0)) (length (c.args.out.now)) = c.least-at.ensures ∙ ap (λ (n : ℕ). min n (length (c.args.out.now))) c.header_len.ensures in
-    let is-picture : {o : Outcome ℕ} → counted_outcome c.picture_at.result ≡ o
-    → Writes (picture_of c.args.n c.args.choice (run read_tex c.args.block.now)) (mid_of (c.least-at.result) (length (c.args.out.now) - (c.least-at.result)) (c.args.out.now)) o c.picture_at.new.out = λ e. rw (picture_found _ _ _ (found), ← e) c.picture_at.ensures in
-        rw (image) (headed_refused (header_text c.in-Found.places.params.0) (c.args.out.now) (picture_of c.args.n c.args.choice (run read_tex c.args.block.now)) (place) c.in-Refused-picture_at.refusal (is-picture (ap counted_outcome c.in-Refused-picture_at.is)))
+    let is-picture : (o : Outcome ℕ) → counted_outcome c.picture_at.result ≡ o
+    → Writes (picture_of c.args.n c.args.choice (run read_tex c.args.block.now)) (mid_of (c.least-at.result) (length (c.args.out.now) - (c.least-at.result)) (c.args.out.now)) o c.picture_at.new.out = λ o e. rw (picture_found _ _ _ (found), ← e) c.picture_at.ensures in
+        rw (image) (headed_refused (header_text c.in-Found.places.params.0) (c.args.out.now) (picture_of c.args.n c.args.choice (run read_tex c.args.block.now)) (place) c.in-Refused-picture_at.refusal (is-picture _ (ap counted_outcome c.in-Refused-picture_at.is)))
 
 pub returns-in-Count : goal.returns-in-Count
 returns-in-Count c =
     let found : result (sources_at c.args.block.now c.in-Found.places) ≡ sources_of c.args.n c.args.choice (run read_tex c.args.block.now) = located_sources _ _ _ (ap located_outcome (sym c.in-Found.is) ∙ c.locate.ensures) in
     let image : pam_of c.args.n c.args.choice (run read_tex c.args.block.now) ≡ headed (header_text c.in-Found.places.params.0) (picture_of c.args.n c.args.choice (run read_tex c.args.block.now)) = image_found _ _ _ (found) in
     let place : (c.least-at.result) ≡ min (length (header_text c.in-Found.places.params.0)) (length (c.args.out.now)) = c.least-at.ensures ∙ ap (λ (n : ℕ). min n (length (c.args.out.now))) c.header_len.ensures in
-    let is-picture : {o : Outcome ℕ} → counted_outcome c.picture_at.result ≡ o
-    → Writes (picture_of c.args.n c.args.choice (run read_tex c.args.block.now)) (mid_of (c.least-at.result) (length (c.args.out.now) - (c.least-at.result)) (c.args.out.now)) o c.picture_at.new.out = λ e. rw (picture_found _ _ _ (found), ← e) c.picture_at.ensures in
-    let told : Writes (picture_of c.args.n c.args.choice (run read_tex c.args.block.now)) (mid_of (c.least-at.result) (length (c.args.out.now) - (c.least-at.result)) (c.args.out.now)) (result c.in-Count.len) c.picture_at.new.out = is-picture (ap counted_outcome c.in-Count.is) in
+    let is-picture : (o : Outcome ℕ) → counted_outcome c.picture_at.result ≡ o
+    → Writes (picture_of c.args.n c.args.choice (run read_tex c.args.block.now)) (mid_of (c.least-at.result) (length (c.args.out.now) - (c.least-at.result)) (c.args.out.now)) o c.picture_at.new.out = λ o e. rw (picture_found _ _ _ (found), ← e) c.picture_at.ensures in
+    let told : Writes (picture_of c.args.n c.args.choice (run read_tex c.args.block.now)) (mid_of (c.least-at.result) (length (c.args.out.now) - (c.least-at.result)) (c.args.out.now)) (result c.in-Count.len) c.picture_at.new.out = is-picture _ (ap counted_outcome c.in-Count.is) in
     let written : Behind (header_text c.in-Found.places.params.0) (c.args.out.now) (picture_of c.args.n c.args.choice (run read_tex c.args.block.now)) (place) c.in-Count.len = behind (header_text c.in-Found.places.params.0) (c.args.out.now) (picture_of c.args.n c.args.choice (run read_tex c.args.block.now)) (place) (told) in
     let some : 0 < length (written).picture = picture_some _ _ _ (found) (written).made_is in
         rw (image) (headed_written (header_text c.in-Found.places.params.0) (c.args.out.now) (picture_of c.args.n c.args.choice (run read_tex c.args.block.now)) (place) (told) (written) (some) c.put_header.ensures)
