@@ -1,7 +1,7 @@
 // Fetching runs: a reading or a picture of a whole block, and how many answers were short.
 ghost use Rattle.std.specs.Prelude.{◌≡◌, ◌+◌, ◌*◌, ◌≤◌};
 ghost use Rattle.output.specs.Output.{write_outcome, write_output};
-ghost use Rattle.stream.specs.Fetch.{short_answers, texture_count};
+ghost use Rattle.stream.specs.Fetch as Fetch;
 ghost use Rattle.told.specs.Told as Told;
 
 use stream::fetch_picture::fetch_picture;
@@ -20,8 +20,8 @@ pub extern "C" fn rasclanya_fetch_tex(
     ensures value { result ≡ Told.code_of (Told.reading block.now) }
     ensures textures_after { textures.new ≡ Told.left textures.old Told.textures (Told.reading block.now) }
     ensures palettes_after { palettes.new ≡ Told.left palettes.old Told.palettes (Told.reading block.now) }
-    ensures short_answers_after { short_answers.new ≡ short_answers block.now }
-    ensures short_answers_bound { short_answers.new ≤ 6 + 2 * texture_count block.now }
+    ensures short_answers_after { short_answers.new ≡ Fetch.short_answers block.now }
+    ensures short_answers_bound { short_answers.new ≤ 6 + 2 * Fetch.texture_count block.now }
     ensures needed_after { needed.new ≡ Told.needed_of (Told.reading block.now) }
 {
     let tex_run = fetch_tex(block);
@@ -45,8 +45,8 @@ pub extern "C" fn rasclanya_fetch_picture(
     ensures value { result ≡ Told.code_of (write_outcome (Told.picture block.now n has_palette palette) out.old) }
     ensures out_after { out.new ≡ write_output (Told.picture block.now n has_palette palette) out.old }
     ensures len_after { len.new ≡ Told.left len.old Told.itself (write_outcome (Told.picture block.now n has_palette palette) out.old) }
-    ensures short_answers_after { short_answers.new ≡ short_answers block.now }
-    ensures short_answers_bound { short_answers.new ≤ 6 + 2 * texture_count block.now }
+    ensures short_answers_after { short_answers.new ≡ Fetch.short_answers block.now }
+    ensures short_answers_bound { short_answers.new ≤ 6 + 2 * Fetch.texture_count block.now }
     ensures needed_after { needed.new ≡ Told.needed_of (write_outcome (Told.picture block.now n has_palette palette) out.old) }
 {
     let picture_run = fetch_picture(block, n, choice_of(has_palette, palette), out);
