@@ -1,10 +1,8 @@
 -- `compressed::block_colors` meets its contract: the loop writes texel after texel. Assumes nothing.
-use Prim.Native.Nat.{◌-◌, ◌≤◌}
 use mathlib.Core.Path.{◌≡◌}
 use native.Mathlib.Omega.{arith}
 use Rattle.output.proofs.Outputs.{wrote_length}
-use Rattle.texels.specs.Texels.{block_color}
-use Rattle.paint.proofs.Quads.{Painting, paint_none, paint_more, painted_all}
+use Rattle.paint.proofs.Quads.{paint_none, paint_more, painted_all}
 use Rattle.texels.proofs.Texels.{block_four}
 use Rattle.compressed.proofs.block_colors.Goals as goal
 
@@ -15,12 +13,11 @@ pub put_pixel-requires : goal.put_pixel-requires
 put_pixel-requires c = omega (arith, wrote_length c.loop-texel.invariant.1)
 
 pub loop-texel-preserved : goal.loop-texel-preserved
-loop-texel-preserved c =
-    (
-      omega arith,
-      rw c.put_pixel.ensures
-          (paint_more _ _ c.loop-texel.invariant.1 c.block_color.ensures (block_four _ _ _ _ (omega arith)) (omega arith)),
-    )
+loop-texel-preserved c = (
+  omega arith,
+  rw c.put_pixel.ensures
+      (paint_more _ _ c.loop-texel.invariant.1 c.block_color.ensures (block_four _ _ _ _ (omega arith)) (omega arith)),
+)
 
 pub shape_of-table : goal.shape_of-table
 shape_of-table c = wrote_length c.loop-texel.invariant.1

@@ -1,11 +1,7 @@
 -- `compressed::block_colors` meets its contract: the loop writes texel after texel. Assumes nothing.
 use Prim.Native.Nat.{◌-◌, ◌≤◌}
-use mathlib.Core.Path.{◌≡◌}
-use native.Mathlib.Omega.{arith}
-use Rattle.output.proofs.Outputs.{wrote_length}
 use Rattle.texels.specs.Texels.{block_color}
-use Rattle.paint.proofs.Quads.{Painting, paint_none, paint_more, painted_all}
-use Rattle.texels.proofs.Texels.{block_four}
+use Rattle.paint.proofs.Quads.{Painting}
 use Rattle.compressed.proofs.block_colors.Given as goal
 
 abbrev pub invariant-loop-texel : goal.invariant-loop-texel

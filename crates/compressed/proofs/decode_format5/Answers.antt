@@ -1,14 +1,14 @@
 -- `compressed::decode_format5` meets its contract: the loop writes four rows of texels after four. Assumes nothing.
 -- the output has room for the next four rows
-use Prim.Native.Nat.{◌+◌, ◌*◌, ◌/◌, ◌-◌, ◌≤◌}
+use Prim.Native.Nat.{◌+◌, ◌*◌, ◌/◌, ◌≤◌}
 use mathlib.Core.Path.{◌≡◌, refl, ap}
 use native.Mathlib.Nat.{mul-zero, mul_left_comm}
 use native.Mathlib.Omega.{arith}
 use lib.ListN.{length, length-take, length-drop}
 use borrow.Author.Rules.{rules}
 use Rattle.output.proofs.Outputs.{wrote_length}
-use Rattle.compressed.specs.Blocks.{compressed_texel, rows_texel}
-use Rattle.paint.proofs.Quads.{Painting, paint_none, painted_all}
+use Rattle.compressed.specs.Blocks.{rows_texel}
+use Rattle.paint.proofs.Quads.{paint_none, painted_all}
 use Rattle.compressed.proofs.Rows.{mul_below, mul_next, rows_texel_lem, paint_part}
 use Rattle.compressed.proofs.decode_format5.Goals as goal
 
@@ -91,7 +91,7 @@ put_blocks-requires c =
       ap (λ k. a.width * k) c.requires.rows,
       wrote_length c.loop-i.invariant.1,
     ) in
-        let a = c.args in
+    let a = c.args in
     let below = mul_below (a.width / 4) c.loop-i.i (a.height / 4) (omega arith) in
     record {
       fours = c.requires.fours;
@@ -111,7 +111,7 @@ loop-i-preserved c =
       ap (λ k. a.width * k) c.requires.rows,
       wrote_length c.loop-i.invariant.1,
     ) in
-        let a = c.args in
+    let a = c.args in
     let i = c.loop-i.i in
     let at : 16 * (a.width * i) ≡ 4 * (a.width * (4 * i)) = omega (arith, mul_left_comm a.width 4 i) in (
       omega arith,

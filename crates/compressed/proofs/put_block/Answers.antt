@@ -1,9 +1,9 @@
 -- `compressed::put_block` meets its contract: the loop writes row after row of the block. Assumes nothing.
 -- a row of the block is in one of the picture's first four rows
-use Prim.Native.Nat.{◌+◌, ◌*◌, ◌-◌, ◌≤◌}
+use Prim.Native.Nat.{◌+◌, ◌*◌, ◌≤◌}
 use native.Mathlib.Omega.{arith}
-use Rattle.compressed.specs.Blocks.{row_bytes, byte_of}
-use Rattle.compressed.proofs.Rows.{BlockPutting, block_none, block_more, block_all, length_row_bytes}
+use Rattle.compressed.specs.Blocks.{byte_of}
+use Rattle.compressed.proofs.Rows.{block_none, block_more, block_all, length_row_bytes}
 use Rattle.texels.proofs.Index.{row_below}
 use Rattle.compressed.proofs.put_block.Goals as goal
 

@@ -1,10 +1,8 @@
 -- `compressed::put_block` meets its contract: the loop writes row after row of the block. Assumes nothing.
 -- a row of the block is in one of the picture's first four rows
-use Prim.Native.Nat.{◌+◌, ◌*◌, ◌-◌, ◌≤◌}
-use native.Mathlib.Omega.{arith}
+use Prim.Native.Nat.{◌+◌, ◌*◌, ◌-◌}
 use Rattle.compressed.specs.Blocks.{row_bytes, byte_of}
-use Rattle.compressed.proofs.Rows.{BlockPutting, block_none, block_more, block_all, length_row_bytes}
-use Rattle.texels.proofs.Index.{row_below}
+use Rattle.compressed.proofs.Rows.{BlockPutting}
 use Rattle.compressed.proofs.put_block.Given as goal
 
 abbrev pub invariant-loop-i : goal.invariant-loop-i

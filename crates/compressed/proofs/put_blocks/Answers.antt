@@ -1,11 +1,10 @@
 -- `compressed::put_blocks` meets its contract: the loop writes block after block, four rows of texels at once. Assumes nothing.
-use Prim.Native.Nat.{ℕ, ◌-◌, ◌<◌}
+use Prim.Native.Nat.{ℕ, ◌<◌}
 use mathlib.Core.Path.{◌≡◌, refl}
 use native.Mathlib.Omega.{arith}
 use lib.ListN.{length, get_or}
 use borrow.Author.Rules.{rules}
-use Rattle.compressed.specs.Blocks.{rows_texel}
-use Rattle.compressed.proofs.Rows.{BlocksDone, blocks_none, blocks_more, blocks_all, length_row_bytes, row_texels}
+use Rattle.compressed.proofs.Rows.{blocks_none, blocks_more, blocks_all, length_row_bytes, row_texels}
 use Rattle.compressed.proofs.put_blocks.Goals as goal
 
 pub loop-i-init : goal.loop-i-init

@@ -1,11 +1,9 @@
 -- `compressed::put_blocks` meets its contract: the loop writes block after block, four rows of texels at once. Assumes nothing.
-use Prim.Native.Nat.{ℕ, ◌-◌, ◌<◌}
-use mathlib.Core.Path.{◌≡◌, refl}
-use native.Mathlib.Omega.{arith}
-use lib.ListN.{length, get_or}
-use borrow.Author.Rules.{rules}
+use Prim.Native.Nat.{◌-◌}
+use mathlib.Core.Path.{◌≡◌}
+use lib.ListN.{length}
 use Rattle.compressed.specs.Blocks.{rows_texel}
-use Rattle.compressed.proofs.Rows.{BlocksDone, blocks_none, blocks_more, blocks_all, length_row_bytes, row_texels}
+use Rattle.compressed.proofs.Rows.{BlocksDone}
 use Rattle.compressed.proofs.put_blocks.Given as goal
 
 abbrev pub invariant-loop-i : goal.invariant-loop-i

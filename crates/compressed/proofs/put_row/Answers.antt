@@ -3,7 +3,6 @@ use Prim.Native.Nat.{ℕ, ◌/◌, ◌%◌}
 use mathlib.Core.Path.{◌≡◌, ap, ◌∙◌}
 use native.Mathlib.Omega.{arith}
 use lib.Bits.{bit_and, and_mask}
-use borrow.Author.Rules.{rules}
 use Rattle.paint.specs.Paint.{pixel_at}
 use Rattle.compressed.specs.Blocks.{row_bytes}
 use Rattle.compressed.proofs.Rows.{chosen, put_quads, row_fours}

@@ -1,13 +1,12 @@
 -- `direct::decode_large_format7` meets its contract: the loop writes texel after texel. Assumes nothing.
 -- where the function begins
-use Prim.Native.Nat.{◌+◌, ◌-◌, ◌*◌, ◌≤◌}
+use Prim.Native.Nat.{◌+◌, ◌*◌, ◌≤◌}
 use mathlib.Core.Path.{◌≡◌, ap, ◌∙◌}
 use native.Mathlib.Omega.{arith}
 use lib.ListN.{length}
-use borrow.Author.Rules.{rules}
 use Rattle.output.proofs.Outputs.{wrote_length}
 use Rattle.texels.specs.Texels.{direct, format7}
-use Rattle.paint.proofs.Quads.{Painting, paint_none, paint_more, painted_all}
+use Rattle.paint.proofs.Quads.{paint_none, paint_more, painted_all}
 use Rattle.texels.proofs.Texels.{format7_four}
 use Rattle.direct.proofs.Words.{number_two}
 use Rattle.direct.proofs.decode_large_format7.Goals as goal
@@ -22,7 +21,7 @@ pub slice_bounds-direct_by-end-in-loop-n : goal.slice_bounds-direct_by-end-in-lo
 slice_bounds-direct_by-end-in-loop-n c = c.high_words-highs.ensures.long
 
 pub direct_by-requires : goal.direct_by-requires
-direct_by-requires c =     (c.low_words-lows.ensures, c.high_words-highs.ensures)
+direct_by-requires c = (c.low_words-lows.ensures, c.high_words-highs.ensures)
 
 pub put_pixel-requires : goal.put_pixel-requires
 put_pixel-requires c =
@@ -33,8 +32,7 @@ pub loop-n-preserved : goal.loop-n-preserved
 unfolding format7
 loop-n-preserved c =
     let room : 4 * c.loop-n.n + 4 ≤ length c.args.out.now = omega arith in
-    let texel : c.direct_by.result ≡ format7 c.args.data1.now c.loop-n.n = c.direct_by.ensures ∙ ap direct (number_two (2 * c.loop-n.n) c.args.data1.now (omega arith)) in
-        (
+    let texel : c.direct_by.result ≡ format7 c.args.data1.now c.loop-n.n = c.direct_by.ensures ∙ ap direct (number_two (2 * c.loop-n.n) c.args.data1.now (omega arith)) in (
       omega arith,
       rw c.put_pixel.ensures (paint_more _ _ c.loop-n.invariant.1 (texel) (format7_four _ _) (room)),
     )

@@ -1,15 +1,8 @@
 -- `direct::decode_large_format7` meets its contract: the loop writes texel after texel. Assumes nothing.
 -- where the function begins
-use Prim.Native.Nat.{◌+◌, ◌-◌, ◌*◌, ◌≤◌}
-use mathlib.Core.Path.{◌≡◌, ap, ◌∙◌}
-use native.Mathlib.Omega.{arith}
-use lib.ListN.{length}
-use borrow.Author.Rules.{rules}
-use Rattle.output.proofs.Outputs.{wrote_length}
-use Rattle.texels.specs.Texels.{direct, format7}
-use Rattle.paint.proofs.Quads.{Painting, paint_none, paint_more, painted_all}
-use Rattle.texels.proofs.Texels.{format7_four}
-use Rattle.direct.proofs.Words.{number_two}
+use Prim.Native.Nat.{◌-◌, ◌≤◌}
+use Rattle.texels.specs.Texels.{format7}
+use Rattle.paint.proofs.Quads.{Painting}
 use Rattle.direct.proofs.decode_large_format7.Given as goal
 
 abbrev pub invariant-loop-n : goal.invariant-loop-n

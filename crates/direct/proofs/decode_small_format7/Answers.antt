@@ -1,11 +1,10 @@
 -- `direct::decode_small_format7` meets its contract: the loop writes texel after texel. Assumes nothing.
-use Prim.Native.Nat.{◌+◌, ◌-◌, ◌*◌, ◌≤◌}
+use Prim.Native.Nat.{◌+◌, ◌*◌, ◌≤◌}
 use mathlib.Core.Path.{◌≡◌, ◌∙◌}
 use native.Mathlib.Omega.{arith}
 use lib.ListN.{length}
-use borrow.Author.Rules.{rules}
 use Rattle.output.proofs.Outputs.{wrote_length}
-use Rattle.paint.proofs.Quads.{Painting, paint_none, paint_more, painted_all}
+use Rattle.paint.proofs.Quads.{paint_none, paint_more, painted_all}
 use Rattle.texels.specs.Texels.{format7}
 use Rattle.texels.proofs.Texels.{format7_four}
 use Rattle.direct.proofs.decode_small_format7.Goals as goal
@@ -24,8 +23,7 @@ loop-n-preserved c =
     let room : 4 * c.loop-n.n + 4 ≤ length c.args.out.now = omega arith in
     let texel : let a = c.args in
     c.direct.result ≡ format7 a.data1.now c.loop-n.n = let a = c.args in
-    c.direct.ensures ∙ rw c.view_u16.ensures in
-        (
+    c.direct.ensures ∙ rw c.view_u16.ensures in (
       omega arith,
       rw c.put_pixel.ensures
           (paint_more _ _ c.loop-n.invariant.1 (texel) (format7_four _ _) (room)),

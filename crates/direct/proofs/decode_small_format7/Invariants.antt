@@ -1,13 +1,7 @@
 -- `direct::decode_small_format7` meets its contract: the loop writes texel after texel. Assumes nothing.
-use Prim.Native.Nat.{◌+◌, ◌-◌, ◌*◌, ◌≤◌}
-use mathlib.Core.Path.{◌≡◌, ◌∙◌}
-use native.Mathlib.Omega.{arith}
-use lib.ListN.{length}
-use borrow.Author.Rules.{rules}
-use Rattle.output.proofs.Outputs.{wrote_length}
-use Rattle.paint.proofs.Quads.{Painting, paint_none, paint_more, painted_all}
+use Prim.Native.Nat.{◌-◌, ◌≤◌}
+use Rattle.paint.proofs.Quads.{Painting}
 use Rattle.texels.specs.Texels.{format7}
-use Rattle.texels.proofs.Texels.{format7_four}
 use Rattle.direct.proofs.decode_small_format7.Given as goal
 
 abbrev pub invariant-loop-n : goal.invariant-loop-n

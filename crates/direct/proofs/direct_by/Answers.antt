@@ -2,7 +2,6 @@
 use Prim.Native.Nat.{◌<◌}
 use mathlib.Core.Path.{◌∙◌}
 use native.Mathlib.Omega.{arith}
-use borrow.Author.Rules.{rules}
 use Rattle.direct.proofs.Words.{direct_word, words_fit}
 use Rattle.direct.proofs.direct_by.Goals as goal
 

@@ -2,7 +2,6 @@
 use Prim.Native.Nat.{◌/◌}
 use native.Mathlib.Omega.{arith}
 use lib.Bits.{and_mask}
-use borrow.Author.Rules.{rules}
 use Rattle.direct.proofs.high_word.Goals as goal
 
 pub overflow_cast-green : goal.overflow_cast-green

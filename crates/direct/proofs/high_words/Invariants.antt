@@ -1,9 +1,7 @@
 -- `direct::high_words` meets its contract: the loop writes word after word. Assumes nothing.
 use Prim.Native.Nat.{◌-◌, ◌≤◌}
-use native.Mathlib.Omega.{arith}
-use borrow.Author.Rules.{rules}
 use Rattle.direct.specs.Words.{high_word}
-use Rattle.paint.proofs.Tables.{TabledTo, tabled_none, tabled_more, tabled_all}
+use Rattle.paint.proofs.Tables.{TabledTo}
 use Rattle.direct.proofs.high_words.Given as goal
 
 abbrev pub invariant-loop-i : goal.invariant-loop-i

@@ -1,7 +1,6 @@
 -- `direct::low_word` meets its contract: a mask is a remainder. Assumes nothing.
 use native.Mathlib.Omega.{arith}
 use lib.Bits.{and_mask}
-use borrow.Author.Rules.{rules}
 use Rattle.direct.proofs.low_word.Goals as goal
 
 pub extend_5bit_to_8bit-red-requires : goal.extend_5bit_to_8bit-red-requires

@@ -1,7 +1,6 @@
 -- `info_block::entry_name` meets its contract: a name within the list is one within the block. Assumes nothing.
 use mathlib.Core.Path.{sym, ◌∙◌}
 use native.Mathlib.Omega.{arith}
-use borrow.Author.Rules.{rules}
 use Rattle.util.proofs.Parts.{part_of_part}
 use Rattle.info_block.specs.InfoBlock.{name_at, list_length}
 use Rattle.info_block.proofs.entry_name.Goals as goal

@@ -1,10 +1,10 @@
 -- `info_block::name_at` meets its contract: the loop writes the block's bytes to the array, byte after byte. Assumes nothing.
-use Prim.Native.Nat.{◌-◌, ◌≤◌, ◌<◌}
+use Prim.Native.Nat.{◌<◌}
 use mathlib.Core.Path.{◌≡◌, ◌∙◌}
 use native.Mathlib.Omega.{arith}
-use lib.ListN.{length, take, drop, length-drop}
+use lib.ListN.{length, drop, length-drop}
 use lib.Seq.{get_or-drop}
-use Rattle.output.proofs.Outputs.{Wrote, wrote_none, wrote_byte, wrote_all}
+use Rattle.output.proofs.Outputs.{wrote_none, wrote_byte, wrote_all}
 use Rattle.name.proofs.Texts.{take_more}
 use Rattle.info_block.proofs.name_at.Goals as goal
 

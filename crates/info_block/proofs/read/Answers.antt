@@ -4,7 +4,6 @@ use Prim.Native.Nat.{◌+◌, ◌≤◌}
 use mathlib.Core.Path.{ap, sym, ◌∙◌}
 use native.Mathlib.Omega.{arith}
 use lib.ListN.{length}
-use borrow.Author.Rules.{rules}
 use Rattle.util.specs.Outcome.{result}
 use Rattle.scripts.specs.Script.{outcome_of}
 use Rattle.scripts.proofs.Runs.{take_within, refused}
@@ -24,7 +23,7 @@ returns-in-Refused c =
 pub returns-in-Done : goal.returns-in-Done
 returns-in-Done c =
     let there : let a = c.args in a.pos + 2 ≤ length a.block.now = omega (arith, take_within _ _ _ (rw c.in-Done.is at c.take.ensures)) in
-        let a = c.args in
+    let a = c.args in
     let count = sym c.view_u8-c.ensures in
     c.read_whole.ensures
     ∙ ap (λ x. outcome_of x (λ list. result list.count))

@@ -4,7 +4,6 @@ use Prim.Native.Nat.{◌+◌, ◌≤◌}
 use mathlib.Core.Path.{sym, ◌∙◌}
 use native.Mathlib.Omega.{arith}
 use lib.ListN.{length}
-use borrow.Author.Rules.{rules}
 use Rattle.info_block.specs.InfoBlock.{list_length}
 use Rattle.scripts.proofs.Runs.{take_within, whole_outcome, fault_outcome, refused}
 use Rattle.info_block.proofs.Lists.{data_small, list_follows, dummy_bad, size_bad, list_passes}
@@ -47,7 +46,7 @@ returns-then-dummy-ne0 c =
       rw c.datum_size-size.ensures
           at (take_within _ _ _ (rw c.in-Done.is at c.take.ensures)),
     ) in
-        fault_outcome _ (dummy_bad _ _ _ _ (there) (λ e. c.if-dummy-ne0.true (c.view_u8-dummy.ensures ∙ e)))
+    fault_outcome _ (dummy_bad _ _ _ _ (there) (λ e. c.if-dummy-ne0.true (c.view_u8-dummy.ensures ∙ e)))
 
 pub returns-then-size_of_datum-size : goal.returns-then-size_of_datum-size
 returns-then-size_of_datum-size c =
@@ -56,7 +55,7 @@ returns-then-size_of_datum-size c =
       rw c.datum_size-size.ensures
           at (take_within _ _ _ (rw c.in-Done.is at c.take.ensures)),
     ) in
-        fault_outcome _
+    fault_outcome _
     (size_bad _ _ _ _ (there) (sym c.view_u8-dummy.ensures ∙ c.if-dummy-ne0.false)
     (λ e. c.if-size_of_datum-size.true (c.view_u16-size_of_datum.ensures ∙ (e ∙ sym c.datum_size-size.ensures))))
 
@@ -72,6 +71,6 @@ returns-else-size_of_datum-size c =
       rw c.datum_size-size.ensures
           at (take_within _ _ _ (rw c.in-Done.is at c.take.ensures)),
     ) in
-        whole_outcome _
+    whole_outcome _
     (list_passes _ _ _ _ (there) (sym c.view_u8-dummy.ensures ∙ c.if-dummy-ne0.false)
     (sym c.view_u16-size_of_datum.ensures ∙ (c.if-size_of_datum-size.false ∙ c.datum_size-size.ensures)))

@@ -2,7 +2,6 @@
 use mathlib.Core.Path.{sym, ◌∙◌}
 use native.Mathlib.Omega.{arith}
 use borrow.Author.Tests.{eq-eqb, ne_eqb}
-use borrow.Author.Rules.{rules}
 use Rattle.layout.specs.Positions.{data_at}
 use Rattle.layout.proofs.data1_pos.Goals as goal
 
@@ -14,4 +13,4 @@ returns-then-format-eq5 c =
 
 pub returns-else-format-eq5 : goal.returns-else-format-eq5
 unfolding data_at
-returns-else-format-eq5 c =     (rw (ne_eqb _ 5 (λ e. c.if-format-eq5.false (c.format-format.ensures ∙ e)), c.offset-offset.ensures), omega arith)
+returns-else-format-eq5 c = (rw (ne_eqb _ 5 (λ e. c.if-format-eq5.false (c.format-format.ensures ∙ e)), c.offset-offset.ensures), omega arith)

@@ -1,6 +1,5 @@
 -- `layout::data2_pos` meets its contract. Assumes nothing.
 use native.Mathlib.Omega.{arith}
-use borrow.Author.Rules.{rules}
 use Rattle.layout.specs.Positions.{second_at}
 use Rattle.layout.proofs.data2_pos.Goals as goal
 

@@ -2,7 +2,6 @@
 use Prim.Native.Nat.{ℕ, ◌*◌}
 use mathlib.Core.Path.{ap, sym, ◌∙◌}
 use native.Mathlib.Omega.{arith}
-use borrow.Author.Rules.{rules}
 use Rattle.util.proofs.Numbers.{number_in_part}
 use Rattle.errors.specs.declared.Kind.TheVariants.{Palette}
 use Rattle.info_block.specs.InfoBlock.{datum_at, list_length}

@@ -1,7 +1,6 @@
 -- `layout::params_at` meets its contract. Assumes nothing.
 use mathlib.Core.Path.{sym, ◌∙◌}
 use native.Mathlib.Omega.{arith}
-use borrow.Author.Rules.{rules}
 use Rattle.util.proofs.Numbers.{number_in_part}
 use Rattle.errors.specs.declared.Kind.TheVariants.{Texture}
 use Rattle.info_block.specs.InfoBlock.{datum_at, list_length}

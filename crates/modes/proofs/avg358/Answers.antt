@@ -1,5 +1,4 @@
 -- `modes::avg358` meets its contract: each channel by itself. Assumes nothing.
-use borrow.Author.Rules.{rules}
 use Rattle.texels.specs.Texels.{pixel, mix}
 use Rattle.modes.proofs.avg358.Goals as goal
 

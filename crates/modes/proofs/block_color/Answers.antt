@@ -4,7 +4,6 @@ use lib.Bits.{and_mask}
 use mathlib.Core.Path.{◌∙◌}
 use Rattle.texels.specs.Texels.{block_color}
 use Rattle.modes.proofs.Modes.{mode_same}
-use borrow.Author.Rules.{rules}
 use Rattle.modes.proofs.block_color.Goals as goal
 
 pub mode_color-requires : goal.mode_color-requires

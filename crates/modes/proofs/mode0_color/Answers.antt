@@ -1,7 +1,6 @@
 -- `modes::mode0_color` meets its contract. Assumes nothing.
 use mathlib.Core.Path.{◌≡◌, ◌∙◌}
 use native.Mathlib.Omega.{arith}
-use borrow.Author.Rules.{rules}
 use Rattle.texels.specs.Texels.{mode_color}
 use Rattle.modes.proofs.Modes.{mode0_plain}
 use Rattle.modes.proofs.mode0_color.Goals as goal

@@ -1,7 +1,6 @@
 -- `modes::mode1_color` meets its contract. Assumes nothing.
 use mathlib.Core.Path.{◌≡◌, ◌∙◌}
 use native.Mathlib.Omega.{arith}
-use borrow.Author.Rules.{rules}
 use Rattle.texels.specs.Texels.{mode_color}
 use Rattle.modes.proofs.Modes.{mode1_plain, mode1_mixed}
 use Rattle.modes.proofs.mode1_color.Goals as goal

@@ -1,7 +1,6 @@
 -- `modes::mode2_color` meets its contract. Assumes nothing.
 use mathlib.Core.Path.{◌∙◌}
 use native.Mathlib.Omega.{arith}
-use borrow.Author.Rules.{rules}
 use Rattle.modes.proofs.Modes.{mode2_plain}
 use Rattle.modes.proofs.mode2_color.Goals as goal
 

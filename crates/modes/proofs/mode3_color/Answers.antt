@@ -1,7 +1,6 @@
 -- `modes::mode3_color` meets its contract. Assumes nothing.
 use mathlib.Core.Path.{◌≡◌, ◌∙◌}
 use native.Mathlib.Omega.{arith}
-use borrow.Author.Rules.{rules}
 use Rattle.modes.proofs.Modes.{mode3_plain, mode3_mixed, mode3_turned}
 use Rattle.modes.proofs.mode3_color.Goals as goal
 

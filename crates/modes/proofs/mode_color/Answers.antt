@@ -1,7 +1,6 @@
 -- `modes::mode_color` meets its contract. Assumes nothing.
 use mathlib.Core.Path.{◌≡◌}
 use native.Mathlib.Omega.{arith}
-use borrow.Author.Rules.{rules}
 use Rattle.modes.proofs.mode_color.Goals as goal
 
 pub returns-in-0 : goal.returns-in-0

@@ -1,6 +1,5 @@
 -- `modes::opaque` meets its contract. Assumes nothing.
 use native.Mathlib.Nat.{zero-add}
-use borrow.Author.Rules.{rules}
 use Rattle.texels.specs.Texels as Texels
 use Rattle.modes.proofs.opaque.Goals as goal
 

@@ -3,7 +3,6 @@ use mathlib.Core.Path.{refl}
 use native.Mathlib.Numerals.{add-one}
 use native.Mathlib.Omega.{arith}
 use lib.ListN.{length-set}
-use borrow.Author.Rules.{rules}
 use Rattle.name.proofs.Texts.{display_control, display_ascii, display_two}
 use Rattle.name.proofs.put_display.Goals as goal
 

@@ -3,7 +3,6 @@ use native.Mathlib.Omega.{arith}
 use lib.Bits.{and_mask}
 use mathlib.Core.Path.{◌∙◌}
 use Prim.Native.Nat.{◌+◌, ◌*◌, ◌/◌, ◌%◌, ◌^◌}
-use borrow.Author.Rules.{rules}
 use Rattle.one.proofs.block_texel.Goals as goal
 
 pub overflow_cast-result-2 : goal.overflow_cast-result-2

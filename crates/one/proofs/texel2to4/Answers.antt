@@ -1,7 +1,6 @@
 -- `one::texel2to4` meets its contract. Assumes nothing.
 use mathlib.Core.Path.{◌∙◌}
 use Rattle.texels.specs.Texels.{formats2to4}
-use borrow.Author.Rules.{rules}
 use Rattle.one.proofs.texel2to4.Goals as goal
 
 pub returns : goal.returns

@@ -1,7 +1,6 @@
 -- `one::texel5` meets its contract. Assumes nothing.
 use mathlib.Core.Path.{◌∙◌}
 use Rattle.texels.specs.Texels.{format5}
-use borrow.Author.Rules.{rules}
 use Rattle.one.proofs.texel5.Goals as goal
 
 pub returns : goal.returns

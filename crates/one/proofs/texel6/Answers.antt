@@ -5,7 +5,6 @@ use mathlib.Core.Path.{◌≡◌, ◌∙◌}
 use lib.ListN.{get_or}
 use Prim.Native.Nat.{◌/◌, ◌%◌, ◌^◌}
 use Rattle.texels.specs.Texels.{format6}
-use borrow.Author.Rules.{rules}
 use Rattle.one.proofs.texel6.Goals as goal
 
 pub overflow_cast-x : goal.overflow_cast-x

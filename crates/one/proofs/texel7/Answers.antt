@@ -1,7 +1,6 @@
 -- `one::texel7` meets its contract. Assumes nothing.
 use mathlib.Core.Path.{ap, ◌∙◌}
 use Rattle.texels.specs.Texels.{direct, format7}
-use borrow.Author.Rules.{rules}
 use Rattle.one.proofs.texel7.Goals as goal
 
 pub returns : goal.returns

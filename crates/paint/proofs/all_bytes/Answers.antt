@@ -1,9 +1,8 @@
 -- `paint::all_bytes` meets its contract: the loop writes byte after byte. Assumes nothing.
-use Prim.Native.Nat.{◌-◌, ◌≤◌}
 use mathlib.Core.Path.{refl}
 use native.Mathlib.Omega.{arith}
 use Rattle.paint.specs.Paint.{itself}
-use Rattle.paint.proofs.Tables.{TabledTo, tabled_none, tabled_more, tabled_all}
+use Rattle.paint.proofs.Tables.{tabled_none, tabled_more, tabled_all}
 use Rattle.paint.proofs.all_bytes.Goals as goal
 
 pub loop-i-init : goal.loop-i-init

@@ -1,9 +1,7 @@
 -- `paint::all_bytes` meets its contract: the loop writes byte after byte. Assumes nothing.
 use Prim.Native.Nat.{◌-◌, ◌≤◌}
-use mathlib.Core.Path.{refl}
-use native.Mathlib.Omega.{arith}
 use Rattle.paint.specs.Paint.{itself}
-use Rattle.paint.proofs.Tables.{TabledTo, tabled_none, tabled_more, tabled_all}
+use Rattle.paint.proofs.Tables.{TabledTo}
 use Rattle.paint.proofs.all_bytes.Given as goal
 
 abbrev pub invariant-loop-i : goal.invariant-loop-i

@@ -1,6 +1,5 @@
 -- `paint::decode_large_format1` meets its contract: the texels are in the table of all bytes. Assumes nothing.
 use mathlib.Core.Path.{refl, ◌∙◌}
-use borrow.Author.Rules.{rules}
 use Rattle.texels.specs.Texels.{a3i5, format1}
 use Rattle.paint.proofs.Quads.{painted_same}
 use Rattle.paint.proofs.Tables.{byte_texel}

@@ -1,6 +1,5 @@
 -- `paint::decode_large_format6` meets its contract: the texels are in the table of all bytes. Assumes nothing.
 use mathlib.Core.Path.{refl, ◌∙◌}
-use borrow.Author.Rules.{rules}
 use Rattle.texels.specs.Texels.{a5i3, format6}
 use Rattle.paint.proofs.Quads.{painted_same}
 use Rattle.paint.proofs.Tables.{byte_texel}

@@ -1,14 +1,13 @@
 -- `paint::decode_small_format1` meets its contract: texels are copied from the palette's table, with their own alpha. Assumes nothing.
 -- where the function begins
-use Prim.Native.Nat.{◌+◌, ◌-◌, ◌*◌, ◌≤◌}
+use Prim.Native.Nat.{◌+◌, ◌*◌, ◌≤◌}
 use mathlib.Core.Path.{◌≡◌, ◌∙◌}
 use mathlib.Core.Bool.{false}
 use native.Mathlib.Omega.{arith}
 use lib.ListN.{length, get_or}
 use lib.Bits.{and_mask}
-use borrow.Author.Rules.{rules}
 use Rattle.output.proofs.Outputs.{wrote_length}
-use Rattle.paint.proofs.Quads.{Painting, paint_none, paint_more, painted_all}
+use Rattle.paint.proofs.Quads.{paint_none, paint_more, painted_all}
 use Rattle.texels.specs.Texels.{format1}
 use Rattle.paint.proofs.Tables.{Table, table_made, format1_texel}
 use Rattle.texels.proofs.Texels.{format1_four}
@@ -18,19 +17,19 @@ pub loop-n-init : goal.loop-n-init
 loop-n-init c = (omega arith, paint_none _ _)
 
 pub overflow_cast-x : goal.overflow_cast-x
-overflow_cast-x c =     omega (arith, and_mask (get_or c.args.data1.now c.loop-n.n 0) 5)
+overflow_cast-x c = omega (arith, and_mask (get_or c.args.data1.now c.loop-n.n 0) 5)
 
 pub pixel_at-color-requires : goal.pixel_at-color-requires
 pixel_at-color-requires c =
     let table : let a = c.args in
     Table false a.pal.now a.off 32 c.expand_palette.new.table = table_made _ _ _ _ _ c.expand_palette.ensures in
-        omega (arith, and_mask (get_or c.args.data1.now c.loop-n.n 0) 5, (table).room)
+    omega (arith, and_mask (get_or c.args.data1.now c.loop-n.n 0) 5, (table).room)
 
 pub a3_to_a5-requires : goal.a3_to_a5-requires
-a3_to_a5-requires c =     omega (arith, c.shared_slice_known-in-loop-n-1.given c.loop-n.n)
+a3_to_a5-requires c = omega (arith, c.shared_slice_known-in-loop-n-1.given c.loop-n.n)
 
 pub with_alpha-requires : goal.with_alpha-requires
-with_alpha-requires c =     omega (arith, c.a3_to_a5.ensures, c.shared_slice_known-in-loop-n-1.given c.loop-n.n)
+with_alpha-requires c = omega (arith, c.a3_to_a5.ensures, c.shared_slice_known-in-loop-n-1.given c.loop-n.n)
 
 pub put_pixel-requires : goal.put_pixel-requires
 put_pixel-requires c =
@@ -47,8 +46,7 @@ loop-n-preserved c =
     let byte = (c.shared_slice_known-in-loop-n-1.given c.loop-n.n).fits in
     c.with_alpha.ensures
     ∙ rw (c.a3_to_a5.ensures, c.pixel_at-color.ensures)
-    (format1_texel _ _ _ _ byte (table)) in
-        (
+    (format1_texel _ _ _ _ byte (table)) in (
       omega arith,
       rw c.put_pixel.ensures
           (paint_more _ _ c.loop-n.invariant.1 (texel) (format1_four _ _ _ _) (room)),

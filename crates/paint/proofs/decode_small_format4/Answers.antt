@@ -1,12 +1,11 @@
 -- `paint::decode_small_format4` meets its contract: the loop writes texel after texel. Assumes nothing.
-use Prim.Native.Nat.{◌+◌, ◌-◌, ◌*◌, ◌≤◌}
+use Prim.Native.Nat.{◌+◌, ◌*◌, ◌≤◌}
 use mathlib.Core.Path.{◌≡◌, ◌∙◌}
 use native.Mathlib.Omega.{arith}
 use lib.ListN.{length}
-use borrow.Author.Rules.{rules}
 use Rattle.output.proofs.Outputs.{wrote_length}
 use Rattle.texels.specs.Texels.{formats2to4}
-use Rattle.paint.proofs.Quads.{Painting, paint_none, paint_more, painted_all}
+use Rattle.paint.proofs.Quads.{paint_none, paint_more, painted_all}
 use Rattle.texels.proofs.Texels.{texel_byte, formats2to4_four}
 use Rattle.paint.proofs.decode_small_format4.Goals as goal
 
@@ -24,8 +23,7 @@ loop-n-preserved c =
     let room : 4 * c.loop-n.n + 4 ≤ length c.args.out.now = omega arith in
     let texel : let a = c.args in
     c.indexed.result ≡ formats2to4 8 a.clear0 a.data1.now a.pal.now a.off c.loop-n.n = let byte = (c.shared_slice_known-in-loop-n-1.given c.loop-n.n).fits in
-    c.indexed.ensures ∙ rw (texel_byte _ _ byte) in
-        (
+    c.indexed.ensures ∙ rw (texel_byte _ _ byte) in (
       omega arith,
       rw c.put_pixel.ensures
           (paint_more _ _ c.loop-n.invariant.1 (texel) (formats2to4_four _ _ _ _ 8 _) (room)),

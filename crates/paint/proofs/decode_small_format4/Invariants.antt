@@ -1,13 +1,7 @@
 -- `paint::decode_small_format4` meets its contract: the loop writes texel after texel. Assumes nothing.
-use Prim.Native.Nat.{◌+◌, ◌-◌, ◌*◌, ◌≤◌}
-use mathlib.Core.Path.{◌≡◌, ◌∙◌}
-use native.Mathlib.Omega.{arith}
-use lib.ListN.{length}
-use borrow.Author.Rules.{rules}
-use Rattle.output.proofs.Outputs.{wrote_length}
+use Prim.Native.Nat.{◌-◌, ◌≤◌}
 use Rattle.texels.specs.Texels.{formats2to4}
-use Rattle.paint.proofs.Quads.{Painting, paint_none, paint_more, painted_all}
-use Rattle.texels.proofs.Texels.{texel_byte, formats2to4_four}
+use Rattle.paint.proofs.Quads.{Painting}
 use Rattle.paint.proofs.decode_small_format4.Given as goal
 
 abbrev pub invariant-loop-n : goal.invariant-loop-n

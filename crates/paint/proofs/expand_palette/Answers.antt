@@ -1,11 +1,10 @@
 -- `paint::expand_palette` meets its contract: the loop writes texel after texel. Assumes nothing.
-use Prim.Native.Nat.{◌+◌, ◌-◌, ◌*◌, ◌≤◌}
+use Prim.Native.Nat.{◌+◌, ◌*◌, ◌≤◌}
 use mathlib.Core.Path.{◌≡◌}
 use native.Mathlib.Omega.{arith}
 use lib.ListN.{length}
 use Rattle.output.proofs.Outputs.{wrote_length}
-use Rattle.texels.specs.Texels.{indexed}
-use Rattle.paint.proofs.Quads.{Painting, paint_none, paint_more, painted_all}
+use Rattle.paint.proofs.Quads.{paint_none, paint_more, painted_all}
 use Rattle.texels.proofs.Texels.{indexed_four}
 use Rattle.paint.proofs.expand_palette.Goals as goal
 
@@ -22,8 +21,7 @@ put_pixel-requires c =
 
 pub loop-i-preserved : goal.loop-i-preserved
 loop-i-preserved c =
-    let room : 4 * c.loop-i.i + 4 ≤ length c.args.table.now = omega arith in
-        (
+    let room : 4 * c.loop-i.i + 4 ≤ length c.args.table.now = omega arith in (
       omega arith,
       rw c.put_pixel.ensures
           (paint_more _ _ c.loop-i.invariant.1 c.indexed.ensures (indexed_four _ _ _ _) (room)),

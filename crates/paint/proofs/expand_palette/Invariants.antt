@@ -1,12 +1,7 @@
 -- `paint::expand_palette` meets its contract: the loop writes texel after texel. Assumes nothing.
-use Prim.Native.Nat.{◌+◌, ◌-◌, ◌*◌, ◌≤◌}
-use mathlib.Core.Path.{◌≡◌}
-use native.Mathlib.Omega.{arith}
-use lib.ListN.{length}
-use Rattle.output.proofs.Outputs.{wrote_length}
+use Prim.Native.Nat.{◌-◌, ◌≤◌}
 use Rattle.texels.specs.Texels.{indexed}
-use Rattle.paint.proofs.Quads.{Painting, paint_none, paint_more, painted_all}
-use Rattle.texels.proofs.Texels.{indexed_four}
+use Rattle.paint.proofs.Quads.{Painting}
 use Rattle.paint.proofs.expand_palette.Given as goal
 
 abbrev pub invariant-loop-i : goal.invariant-loop-i

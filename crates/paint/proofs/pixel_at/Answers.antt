@@ -1,7 +1,6 @@
 -- `paint::pixel_at` meets its contract. Assumes nothing.
 use Prim.Native.Nat.{◌*◌}
 use native.Mathlib.Omega.{arith}
-use borrow.Author.Rules.{rules}
 use Rattle.texels.proofs.Texels.{four_at}
 use Rattle.paint.proofs.pixel_at.Goals as goal
 

@@ -1,12 +1,11 @@
 -- `paint::put_indexed` meets its contract: the loop copies texel after texel. Assumes nothing.
-use Prim.Native.Nat.{◌+◌, ◌-◌, ◌*◌, ◌≤◌}
+use Prim.Native.Nat.{◌+◌, ◌*◌, ◌≤◌}
 use mathlib.Core.Path.{◌≡◌, ap, ◌∙◌}
 use native.Mathlib.Omega.{arith}
 use lib.ListN.{length}
-use borrow.Author.Rules.{rules}
 use Rattle.output.proofs.Outputs.{wrote_length}
-use Rattle.paint.specs.Paint.{pixel_at, indexed_texel}
-use Rattle.paint.proofs.Quads.{Painting, paint_none, paint_more, painted_all}
+use Rattle.paint.specs.Paint.{pixel_at}
+use Rattle.paint.proofs.Quads.{paint_none, paint_more, painted_all}
 use Rattle.texels.proofs.Index.{texel_lt}
 use Rattle.paint.proofs.Tables.{indexed_texel_four, index_there}
 use Rattle.paint.proofs.put_indexed.Goals as goal
@@ -30,7 +29,7 @@ put_pixel-requires c =
 pub loop-n-preserved : goal.loop-n-preserved
 loop-n-preserved c =
     let room : 4 * c.loop-n.n + 4 ≤ length c.args.out.now = omega arith in
-        let a = c.args in
+    let a = c.args in
     let texel = c.pixel_at.ensures ∙ ap (pixel_at a.table.now) c.index_at.ensures in
     let four = indexed_texel_four a.bits a.data1.now a.table.now c.loop-n.n (omega arith) in
     (omega arith, rw c.put_pixel.ensures (paint_more _ _ c.loop-n.invariant.1 texel four (room)))

@@ -14,7 +14,7 @@ put_refused-requires c =
 pub returns : goal.returns
 returns c =
     let room : Room (refused_line c.args.number c.args.returned) c.args.out.now 0 = record { fits = omega (arith, refused_length c.args.number c.args.returned (omega arith) (omega arith)) } in
-        let r = room in
+    let r = room in
     let p = c.put_refused.ensures in
     record {
       value = put_writes r p;

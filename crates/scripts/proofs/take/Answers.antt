@@ -1,7 +1,6 @@
 -- `scripts::take` meets its contract: the case that `take_at` answers says whether the bytes are there. Assumes nothing.
 use mathlib.Core.Path.{ap, ◌∙◌}
 use native.Mathlib.Omega.{arith}
-use borrow.Author.Rules.{rules}
 use Rattle.util.specs.Outcome.{refusal}
 use Rattle.util.proofs.Takes.{took, lacked, low_exact}
 use Rattle.scripts.proofs.Runs.{bytes_in, bytes_out, whole_outcome, short_outcome}

@@ -1,5 +1,4 @@
 -- `texels::direct` meets its contract. Assumes nothing.
-use borrow.Author.Rules.{rules}
 use Rattle.texels.proofs.direct.Goals as goal
 
 pub returns : goal.returns

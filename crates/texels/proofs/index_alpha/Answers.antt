@@ -1,6 +1,5 @@
 -- `texels::index_alpha` meets its contract. Assumes nothing.
 use native.Mathlib.Omega.{arith}
-use borrow.Author.Rules.{rules}
 use borrow.Author.Tests.{eq-eqb, ne_eqb}
 use Rattle.texels.proofs.index_alpha.Goals as goal
 

@@ -3,7 +3,6 @@ use Prim.Native.Nat.{ℕ, ◌%◌}
 use mathlib.Core.Path.{◌≡◌}
 use native.Mathlib.Omega.{arith}
 use lib.Bits.{bit_and, and_mask}
-use borrow.Author.Rules.{rules}
 use Rattle.util.proofs.Fields.{ones_shifted}
 use Rattle.texels.proofs.Texels.{texel_bits_lem}
 use Rattle.texels.proofs.Index.{index_small}

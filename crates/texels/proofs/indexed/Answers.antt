@@ -1,5 +1,4 @@
 -- `texels::indexed` meets its contract. Assumes nothing.
-use borrow.Author.Rules.{rules}
 use Rattle.texels.specs.Texels as Texels
 use Rattle.texels.proofs.indexed.Goals as goal
 

@@ -4,7 +4,6 @@
 use Prim.Native.Nat.{◌+◌, ◌*◌}
 use native.Mathlib.Omega.{arith}
 use lib.ListN.{length}
-use borrow.Author.Rules.{rules}
 use borrow.Author.Tests.{le-leb, lt-leb}
 use Rattle.util.specs.Number.{number_at}
 use Rattle.util.proofs.Numbers.{number_small}
@@ -16,7 +15,7 @@ pub overflow_cast-result : goal.overflow_cast-result
 overflow_cast-result c =
     let there : let a = c.args in
     Took (length a.pal.now) (a.off + 2 * a.i) 2 (number_at 2 (a.off + 2 * a.i) a.pal.now) c.in-Number.color = took _ _ _ _ (rw c.in-Number.is at c.nth_u16.ensures) in
-        let a = c.args in
+    let a = c.args in
     let small = number_small 2 (a.off + 2 * a.i) a.pal.now (λ k. omega (arith, c.shared_slice_known-1.given k)) in
     record { fits = omega (arith, (there).holds, small) }
 
@@ -25,7 +24,7 @@ unfolding palette_color
 returns-in-Number c =
     let there : let a = c.args in
     Took (length a.pal.now) (a.off + 2 * a.i) 2 (number_at 2 (a.off + 2 * a.i) a.pal.now) c.in-Number.color = took _ _ _ _ (rw c.in-Number.is at c.nth_u16.ensures) in
-        let a = c.args in
+    let a = c.args in
     rw (le-leb (a.off + 2 * a.i + 2) (colors_end a.pal.now) (omega (arith, (there).within))) (there).holds
 
 pub returns-in-Short : goal.returns-in-Short

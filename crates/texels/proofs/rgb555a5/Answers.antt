@@ -1,5 +1,4 @@
 -- `texels::rgb555a5` meets its contract. Assumes nothing.
-use borrow.Author.Rules.{rules}
 use Rattle.texels.specs.Texels.{pixel}
 use Rattle.texels.proofs.rgb555a5.Goals as goal
 

@@ -1,9 +1,9 @@
 -- `text::put` meets its contract: the loop writes the text byte after byte. Assumes nothing.
-use Prim.Native.Nat.{◌+◌, ◌-◌, ◌≤◌}
+use Prim.Native.Nat.{◌+◌, ◌≤◌}
 use mathlib.Core.Path.{◌≡◌, refl, ◌∙◌, ap}
 use native.Mathlib.Omega.{arith}
 use lib.ListN.{length, take}
-use lib.Seq.{sets, length-sets, take-length}
+use lib.Seq.{length-sets, take-length}
 use Rattle.text.proofs.Puts.{put_byte}
 use Rattle.text.proofs.put.Goals as goal
 

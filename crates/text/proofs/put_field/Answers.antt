@@ -1,5 +1,4 @@
 -- `text::put_field` meets its contract: one text is put behind the other. Assumes nothing.
-use borrow.Author.Rules.{rules}
 use Rattle.text.proofs.Puts.{put_then, room_first, room_then}
 use Rattle.text.proofs.put_field.Goals as goal
 

@@ -1,7 +1,6 @@
 -- `text::put_number` meets its contract: `io` gives the fewest digits, which are the decimal number. Assumes nothing.
 use mathlib.Core.Path.{◌≡◌, ◌∙◌}
 use lib.ListN.{take}
-use borrow.Author.Rules.{rules}
 use Rattle.text.specs.Text.{decimal}
 use Rattle.text.proofs.Decimals.{decimal_digits}
 use Rattle.text.proofs.put_number.Goals as goal

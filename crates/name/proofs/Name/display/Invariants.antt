@@ -1,14 +1,10 @@
 -- `name::Name::display` meets its contract: the loop writes the texts of the bytes that stay, text after text. Assumes nothing.
 -- the output has room for the next byte's text
-use Prim.Native.Nat.{◌+◌, ◌-◌, ◌≤◌, ◌<◌}
-use mathlib.Core.Path.{◌≡◌}
+use Prim.Native.Nat.{◌-◌, ◌≤◌}
 use mathlib.Core.List.{flat_map}
-use native.Mathlib.Omega.{arith}
-use lib.ListN.{length, take, get_or}
-use borrow.Author.Rules.{rules}
-use Rattle.output.proofs.Outputs.{Wrote, wrote_none, wrote_length, wrote_more, writes_fits, writes_short}
+use lib.ListN.{take}
+use Rattle.output.proofs.Outputs.{Wrote}
 use Rattle.name.specs.Name.{display_byte}
-use Rattle.name.proofs.Texts.{kept_within, display_kept, flat_more, flat_room}
 use Rattle.name.proofs.Name.display.Given as goal
 
 abbrev pub invariant-loop-i : goal.invariant-loop-i

@@ -1,12 +1,9 @@
 -- `name::Name::display_len` meets its contract: the loop adds up the lengths of the bytes' texts. Assumes nothing.
-use Prim.Native.Nat.{◌*◌, ◌-◌, ◌≤◌, ◌<◌}
-use mathlib.Core.Path.{◌≡◌, refl}
+use Prim.Native.Nat.{◌*◌, ◌-◌, ◌≤◌}
+use mathlib.Core.Path.{◌≡◌}
 use mathlib.Core.List.{flat_map}
-use native.Mathlib.Omega.{arith}
-use lib.ListN.{length, take, get_or, length-append}
-use borrow.Author.Rules.{rules}
+use lib.ListN.{length, take}
 use Rattle.name.specs.Name.{display_byte}
-use Rattle.name.proofs.Texts.{display_short, flat_more}
 use Rattle.name.proofs.Name.display_len.Given as goal
 
 abbrev pub invariant-loop-i : goal.invariant-loop-i

@@ -1,11 +1,10 @@
 -- `name::Name::print_safe` meets its contract: the loop writes the safe bytes of those that stay, byte after byte. Assumes nothing.
-use Prim.Native.Nat.{◌-◌, ◌≤◌, ◌<◌}
+use Prim.Native.Nat.{◌≤◌, ◌<◌}
 use mathlib.Core.Path.{◌≡◌}
-use mathlib.Core.List.{map}
 use native.Mathlib.Omega.{arith}
-use lib.ListN.{length, take}
+use lib.ListN.{length}
 use borrow.Author.Rules.{rules}
-use Rattle.output.proofs.Outputs.{Wrote, wrote_none, wrote_length, wrote_byte, writes_fits, writes_short}
+use Rattle.output.proofs.Outputs.{wrote_none, wrote_length, wrote_byte, writes_fits, writes_short}
 use Rattle.name.specs.Name.{safe_byte}
 use Rattle.name.proofs.Texts.{kept_within, safe_empty, safe_some, safe_length, map_more}
 use Rattle.name.proofs.Name.print_safe.Goals as goal
@@ -28,7 +27,7 @@ pub bounds-bytes-i : goal.bounds-bytes-i
 bounds-bytes-i c =
     let sized : length c.args.self.0 ≡ 16 = search rules in
     let within : c.trimmed_len-n.result ≤ length c.args.self.0 = kept_within _ _ c.trimmed_len-n.ensures in
-        omega (arith, within, sized)
+    omega (arith, within, sized)
 
 pub bounds-out-i : goal.bounds-out-i
 bounds-out-i c = omega (arith, wrote_length c.loop-i.invariant.1)
@@ -36,7 +35,7 @@ bounds-out-i c = omega (arith, wrote_length c.loop-i.invariant.1)
 pub loop-i-preserved : goal.loop-i-preserved
 loop-i-preserved c =
     let within : c.trimmed_len-n.result ≤ length c.args.self.0 = kept_within _ _ c.trimmed_len-n.ensures in
-        let h : c.loop-i.i < length c.args.self.0 = omega (arith, within) in
+    let h : c.loop-i.i < length c.args.self.0 = omega (arith, within) in
     (omega arith, rw (map_more _ _ safe_byte h, ← c.safe_byte.ensures) (wrote_byte c.loop-i.invariant.1 _ (omega arith)))
 
 pub shape_of-out : goal.shape_of-out

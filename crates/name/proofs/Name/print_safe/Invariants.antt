@@ -1,13 +1,9 @@
 -- `name::Name::print_safe` meets its contract: the loop writes the safe bytes of those that stay, byte after byte. Assumes nothing.
-use Prim.Native.Nat.{◌-◌, ◌≤◌, ◌<◌}
-use mathlib.Core.Path.{◌≡◌}
+use Prim.Native.Nat.{◌-◌, ◌≤◌}
 use mathlib.Core.List.{map}
-use native.Mathlib.Omega.{arith}
-use lib.ListN.{length, take}
-use borrow.Author.Rules.{rules}
-use Rattle.output.proofs.Outputs.{Wrote, wrote_none, wrote_length, wrote_byte, writes_fits, writes_short}
+use lib.ListN.{take}
+use Rattle.output.proofs.Outputs.{Wrote}
 use Rattle.name.specs.Name.{safe_byte}
-use Rattle.name.proofs.Texts.{kept_within, safe_empty, safe_some, safe_length, map_more}
 use Rattle.name.proofs.Name.print_safe.Given as goal
 
 abbrev pub invariant-loop-i : goal.invariant-loop-i
