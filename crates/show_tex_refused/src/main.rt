@@ -1,99 +1,165 @@
 // Writes a picture of a TEX0 block to its standard output, as a PAM image. The arguments are the block's file, the texture's number, and the
-// palette's number or `-` for no palette. Where there is no picture standard output stays empty, and a line on standard error says why: the
-// listing's line of a refusal, or that the file is too long.
+// palette's number or `-` for no palette. Where there is no picture standard output stays empty, and standard error says why: the listing's line
+// of a refusal, that the file is too long, why it cannot be opened, or how the program is used.
 
 #![tactic(auto)]
 
-ghost use Rattle.io.specs.Counts.{IsPrefixLen};
+ghost use Rattle.std.specs.Prelude.{◌≤◌, length};
 
 use arguments::{Parsed, ParsedChoice, parse_choice, parse_number};
 use cursor::part_at;
-use libc::{STDERR_FILENO, STDOUT_FILENO};
 use places::PaletteChoice;
 use refused::MAX_REFUSED;
 use show::{MAX_BLOCK, MAX_PAM, Shown};
+use std::env::FillError;
+use std::io::{ErrorKind, Read};
+use std::rt::{Env, Files};
+use std::{fs, io, str};
 
-fn print_usage() {
-    io::write_all(
-        STDERR_FILENO,
-        b"usage: show_tex FILE TEXTURE PALETTE\nPALETTE is a number, or - for none\n",
-    );
+// The longest argument that is read, in bytes: no path that the system takes is longer.
+const MAX_ARGUMENT: usize = 4096;
+
+// The system's number for a name that is too long.
+const ENAMETOOLONG: i32 = 36;
+
+fn print_usage(err: &impl Print) -> io::Result<()> {
+    err.print("usage: show_tex FILE TEXTURE PALETTE\nPALETTE is a number, or - for none\n")
 }
 
-// An argument that is longer than the buffer is empty here, and so malformed.
-fn texture_number() -> Parsed {
-    let mut text = io::buffer();
-    let len = os::arg(2, &mut text);
+// An argument that does not fit is there all the same, so no room is needed to know of it.
+fn has_argument(rt: &impl Env, i: usize) -> bool {
+    !matches!(rt.arg(i, &mut []), Err(FillError::NotPresent))
+}
+
+// Argument 0 is the program's name.
+fn has_three_arguments(rt: &impl Env) -> bool {
+    has_argument(rt, 3) && !has_argument(rt, 4)
+}
+
+// Puts an argument at the start of the text, and returns its length. An argument that is longer than the text is empty here, and so malformed.
+fn number_text(rt: &impl Env, i: usize, text: &mut [u8; MAX_ARGUMENT]) -> usize
+    ensures { result ≤ length text.new }
+{
+    match rt.arg(i, text) {
+        Ok(len) => len,
+        Err(_) => 0,
+    }
+}
+
+fn texture_number(rt: &impl Env) -> Parsed {
+    let mut text = [0; MAX_ARGUMENT];
+    let len = number_text(rt, 2, &mut text);
     parse_number(&text[..len])
 }
 
-fn palette_choice() -> ParsedChoice {
-    let mut text = io::buffer();
-    let len = os::arg(3, &mut text);
+fn palette_choice(rt: &impl Env) -> ParsedChoice {
+    let mut text = [0; MAX_ARGUMENT];
+    let len = number_text(rt, 3, &mut text);
     parse_choice(&text[..len])
 }
 
-// One byte more than may be read is enough to know that the file is too long.
-fn read_file(fd: i32, input: &mut [u8; MAX_BLOCK + 1]) -> usize
-    ensures { IsPrefixLen result input.new }
+// Reads until the input is full, the file ends or a read fails. One byte more than may be read is enough to know that the file is too long.
+fn read_file(file: &mut impl Read, input: &mut [u8; MAX_BLOCK + 1]) -> usize
+    ensures { result ≤ length input.new }
 {
-    io::read_full(fd, input)
+    let mut done = 0;
+    while done < input.len() {
+        match file.read(&mut input[done..]) {
+            Ok(0) | Err(_) => break,
+            Ok(n) => done += n,
+        }
+    }
+    done
 }
 
 // An image stands at the start of the output.
-fn write_image(out: &[u8; MAX_PAM], len: usize) {
-    io::write_all(STDOUT_FILENO, part_at(out, 0, len));
+fn write_image(rt: &impl Print, out: &[u8; MAX_PAM], len: usize) -> io::Result<()> {
+    rt.write_all(part_at(out, 0, len))
 }
 
-fn tell_refused(number: usize, returned: usize) {
+fn tell_refused(err: &impl Print, number: usize, returned: usize) -> io::Result<()> {
     let mut line = [0; MAX_REFUSED];
     let len = refused::write_refused(number, returned, &mut line);
-    io::write_all(STDERR_FILENO, &line[..len]);
+    err.write_all(&line[..len])
 }
 
-fn tell_too_long() {
-    io::write_all(STDERR_FILENO, b"the file has more than 3145728 bytes\n");
+fn tell_too_long(err: &impl Print) -> io::Result<()> {
+    err.println("the file has more than 3145728 bytes")
 }
 
-fn show(fd: i32, n: usize, choice: PaletteChoice) {
+// What the text of an error says. Behind the system's words std's text has the error's number, which is not told.
+fn words(text: &str) -> &str {
+    match text.rsplit_once(" (os error ") {
+        Some((words, _)) => words,
+        None => text,
+    }
+}
+
+// The path is told byte for byte, since it need not be text.
+fn tell_unopened<R: Alloc>(
+    rt: &R,
+    err: &impl Print,
+    path: &[u8],
+    error: io::Error,
+) -> io::Result<()> {
+    let text = format!(in rt.alloc(); "{error}")?;
+    err.write_all(path)?;
+    println!(err; ": {}", words(text.as_str()))
+}
+
+// Opens a file for reading. The paths of std are UTF-8.
+fn open<R: Files>(rt: &R, path: &[u8]) -> io::Result<R::File> {
+    match str::from_utf8(path) {
+        Ok(path) => fs::open(rt, path),
+        Err(_) => Err(io::Error::new(ErrorKind::InvalidFilename, "the path is not UTF-8")),
+    }
+}
+
+fn show(
+    rt: &impl Print,
+    err: &impl Print,
+    file: &mut impl Read,
+    n: usize,
+    choice: PaletteChoice,
+) -> io::Result<()> {
     let mut input = [0; MAX_BLOCK + 1];
     let mut out = [0; MAX_PAM];
-    let len = read_file(fd, &mut input);
+    let len = read_file(file, &mut input);
     match show::show(&input[..len], n, choice, &mut out) {
-        Shown::Image(len) => write_image(&out, len),
-        Shown::Refused(number, returned) => tell_refused(number, returned),
-        Shown::TooLong => tell_too_long(),
+        Shown::Image(len) => write_image(rt, &out, len),
+        Shown::Refused(number, returned) => tell_refused(err, number, returned),
+        Shown::TooLong => tell_too_long(err),
     }
 }
 
-fn show_file(n: usize, choice: PaletteChoice) {
-    let mut path = io::buffer();
-    let len = os::arg(1, &mut path);
-    if os::errno() != 0 {
-        os::fail(b"FILE");
-        return;
+// A path that is longer than its buffer is told by the argument's name.
+fn show_file<R: Env + Files + Print + Alloc>(
+    rt: &R,
+    err: &impl Print,
+    n: usize,
+    choice: PaletteChoice,
+) -> io::Result<()> {
+    let mut path = [0; MAX_ARGUMENT];
+    let Ok(len) = rt.arg(1, &mut path) else {
+        return tell_unopened(rt, err, b"FILE", io::Error::from_raw_os_error(ENAMETOOLONG));
+    };
+    match open(rt, &path[..len]) {
+        Ok(mut file) => show(rt, err, &mut file, n, choice),
+        Err(error) => tell_unopened(rt, err, &path[..len], error),
     }
-    let fd = os::open_read(&path[..len]);
-    if fd < 0 {
-        os::fail(&path[..len]);
-        return;
-    }
-    show(fd, n, choice);
-    libc::close(fd);
 }
 
-fn main() {
-    if os::arg_count() != 4 {
-        print_usage();
-        return;
+// A write that fails ends the program with its error.
+fn main(rt: HostRuntime) -> io::Result<()> {
+    let err = rt.stderr();
+    if !has_three_arguments(&rt) {
+        return print_usage(&err);
     }
-    let Parsed::Number(n) = texture_number() else {
-        print_usage();
-        return;
+    let Parsed::Number(n) = texture_number(&rt) else {
+        return print_usage(&err);
     };
-    let ParsedChoice::Choice(choice) = palette_choice() else {
-        print_usage();
-        return;
+    let ParsedChoice::Choice(choice) = palette_choice(&rt) else {
+        return print_usage(&err);
     };
-    show_file(n, choice);
+    show_file(&rt, &err, n, choice)
 }
