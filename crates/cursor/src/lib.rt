@@ -41,7 +41,7 @@ fn pos_after(buf: &[u8], pos: usize, n: usize) -> usize
 }
 
 // A slice and a position in it, which may be beyond the end. Its functions hold no test of their own: they call the functions above on the two.
-#[derive(Drop)]
+#[derive(Clone, Copy)]
 pub struct Cur<'a> {
     pub buf: &'a [u8],
     pub pos: usize,
