@@ -1,7 +1,8 @@
 #!/usr/bin/env python3
-"""Makes a block with a picture to look at, a leaf, and the image that the program is to write of it. Use: leaf.py block|image
+"""Makes a block with a picture to look at, a leaf, and the image that the program is to write of it. Use: leaf.py block|image|cut
 
-The texture has 64 by 64 texels of format 3, 16 colours of which colour 0 is clear. The files are data/leaf.tex0 and stdout.
+The texture has 64 by 64 texels of format 3, 16 colours of which colour 0 is clear. The files are data/leaf.tex0, stdout, and
+../show_tex_refused/data/cut.tex0, which is the block without its last byte.
 """
 import math
 import os
@@ -100,4 +101,4 @@ def block():
 
 
 if __name__ == "__main__":
-    blocks.run(block=block, image=lambda: model.show(block(), 0, 0)[0])
+    blocks.run(block=block, image=lambda: model.show(block(), 0, 0)[0], cut=lambda: block()[:-1])

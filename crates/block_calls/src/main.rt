@@ -3,13 +3,12 @@
 
 #![tactic(auto)]
 
-use report::STDIN_FILENO;
 use block_report::{palettes, part, refused, textures};
 use cursor::part_at;
 use name_report::texts;
 use nitro::tex;
 use nitro::tex::Reading;
-use report::{number, text};
+use report::{STDIN_FILENO, number, text};
 use rows_report::all_rows;
 use util::cur::{Peeked, Taken, peek_u32, take_at};
 
