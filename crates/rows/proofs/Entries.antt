@@ -21,7 +21,7 @@ use Rattle.errors.specs.declared.Refusal.{Refusal}
 use Rattle.output.proofs.Outputs.{sets_append, writes_sets, writes_short, pieces_length, pieces_listed}
 use Rattle.scripts.specs.Script.{whole, run}
 use Rattle.info_block.specs.InfoBlock.{name_at, list_length}
-use Rattle.reading.specs.Tex.{Texture, Palette, Contents, header_of, read_tex}
+use Rattle.reading.specs.Tex.{Texture, Contents, header_of, read_tex}
 use Rattle.reading.specs.Layouts.{layout_of, layout_answer}
 use Rattle.layout.specs.Positions.{count_of}
 use Rattle.places.specs.ByLayout.{places_by}

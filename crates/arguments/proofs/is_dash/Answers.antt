@@ -1,5 +1,4 @@
 -- `arguments::is_dash` meets its contract, by the text's length. Assumes nothing.
-use borrow.Author.Rules.{rules}
 use Rattle.arguments.proofs.Spellings.{one_byte, not_one_byte}
 use Rattle.arguments.proofs.is_dash.Goals as goal
 

@@ -1,5 +1,4 @@
 -- `lines::put_alpha` meets its contract, word by word. Assumes nothing.
-use borrow.Author.Rules.{rules}
 use Rattle.text.specs.Text.{ascii}
 use Rattle.lines.specs.Lines.{alpha_word}
 use Rattle.lines.proofs.put_alpha.Goals as goal

@@ -3,7 +3,6 @@
 use mathlib.Core.Path.{◌≡◌}
 use native.Mathlib.Omega.{arith}
 use lib.ListN.{length}
-use borrow.Author.Rules.{rules}
 use Rattle.errors.specs.Refusal.{counted_outcome}
 use Rattle.errors.proofs.Refusals.{refusal_not}
 use Rattle.text.specs.Put.{Put}
@@ -22,7 +21,7 @@ overflow_add-at c =
     let name = c.args.name.0 in
     let e : c.in-Count.len ≡ length (safe_text name) = cc (rw c.in-Count.is at w.outcome) in
     record { output = w.output; behind = rw e } in
-        omega (arith, (first).behind, (room_first (safe_text c.args.name.0) c.args.end.now c.requires).fits)
+    omega (arith, (first).behind, (room_first (safe_text c.args.name.0) c.args.end.now c.requires).fits)
 
 pub put-requires : goal.put-requires
 put-requires c =

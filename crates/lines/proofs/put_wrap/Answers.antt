@@ -1,5 +1,4 @@
 -- `lines::put_wrap` meets its contract, word by word. Assumes nothing.
-use borrow.Author.Rules.{rules}
 use Rattle.text.specs.Text.{ascii}
 use Rattle.lines.specs.Lines.{wrap_word}
 use Rattle.lines.proofs.put_wrap.Goals as goal

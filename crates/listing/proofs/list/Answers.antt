@@ -6,7 +6,6 @@ use Prim.Native.Nat.{◌≤◌}
 use mathlib.Core.Path.{◌≡◌}
 use native.Mathlib.Omega.{arith}
 use lib.ListN.{length, take}
-use borrow.Author.Rules.{rules}
 use Rattle.output.proofs.Outputs.{writes_short}
 use Rattle.listing.specs.Listing.{listing_text}
 use Rattle.text.specs.Put.{Room}
@@ -24,7 +23,7 @@ pub returns-then-out-ge-MAX_LISTING : goal.returns-then-out-ge-MAX_LISTING
 returns-then-out-ge-MAX_LISTING c =
     let fits : length (listing_text c.args.input.now) ≤ 22211 = listing_fits _ (λ k. omega (arith, c.shared_slice_known-1.given k)) in
     let room : Room (listing_text c.args.input.now) c.args.out.now 0 = record { fits = omega (arith, fits) } in
-        put_writes (room) c.put_listing.ensures
+    put_writes (room) c.put_listing.ensures
 
 pub put_listing-len-requires : goal.put_listing-len-requires
 put_listing-len-requires c =
@@ -56,4 +55,4 @@ returns c =
     let buffer-room : Room (listing_text c.args.input.now) c.buffer-text.result 0 = record { fits = omega (arith, c.buffer-text.ensures, fits) } in
     let text : take c.put_listing-len.result c.put_listing-len.new.out ≡ listing_text c.args.input.now = put_text (buffer-room) c.put_listing-len.ensures in
     let output-room : Room (take c.put_listing-len.result c.put_listing-len.new.out) c.args.out.now 0 = record { fits = rw (text) (omega (arith, c.put_listing-len.ensures.behind)) } in
-        rw (← text) (put_writes (output-room) c.put.ensures)
+    rw (← text) (put_writes (output-room) c.put.ensures)

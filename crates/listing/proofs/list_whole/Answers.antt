@@ -2,7 +2,6 @@
 use mathlib.Core.Path.{◌≡◌}
 use native.Mathlib.Omega.{arith}
 use lib.ListN.{length}
-use borrow.Author.Rules.{rules}
 use Rattle.util.specs.Outcome.{result}
 use Rattle.errors.specs.Refusal.{counted_outcome}
 use Rattle.errors.proofs.Refusals.{refusal_not}
@@ -15,7 +14,7 @@ pub returns-in-Count : goal.returns-in-Count
 returns-in-Count c =
     let written : let text = listing_text c.args.input.now in
     (counted_outcome c.list.result ≡ result (length text)) × Wrote text c.args.out.now (length text) c.list.new.out = writes_whole _ _ (omega (arith, listing_fits c.args.input.now (λ k. omega (arith, c.shared_slice_known-1.given k)))) c.list.ensures in
-        let (told, wrote) = written in
+    let (told, wrote) = written in
     let text = listing_text c.args.input.now in
     let same : c.in-Count.len ≡ length text = cc (rw c.in-Count.is at told) in
     record {

@@ -3,11 +3,10 @@
 -- the heading
 -- the lines have room behind it
 -- and after the loop all of them are there
-use Prim.Native.Nat.{ℕ, ◌-◌, ◌≤◌, ◌<◌}
+use Prim.Native.Nat.{◌<◌}
 use mathlib.Core.List.{[], ◌∷◌}
 use mathlib.Core.Path.{◌≡◌}
 use native.Mathlib.Omega.{arith}
-use borrow.Author.Rules.{rules}
 use Rattle.scripts.specs.Script.{run}
 use Rattle.output.specs.Output.{pieces}
 use Rattle.reading.specs.Tex.{read_tex}
@@ -33,7 +32,7 @@ put_entry-at-requires c =
     let counted : c.count_of-count.result ≡ (count_of c.args.kind c.args.layout) = c.count_of-count.ensures in
     let heading : Put (line (list_word c.args.kind ∷ decimal (count_of c.args.kind c.args.layout) ∷ [])) c.args.out.now c.args.at c.put_heading-at.new.out c.put_heading-at.result = rw (counted) at c.put_heading-at.ensures in
     let behind : Room (pieces (entry_line c.args.kind (run read_tex c.args.block.now)) (count_of c.args.kind c.args.layout)) c.put_heading-at.new.out c.put_heading-at.result = room_then (heading) c.requires.1 in
-        let below : c.loop-n.n < (count_of c.args.kind c.args.layout) = omega (arith, counted, c.loop-n-test.true) in
+    let below : c.loop-n.n < (count_of c.args.kind c.args.layout) = omega (arith, counted, c.loop-n-test.true) in
     (c.requires.0, (below, room_line _ _ _ below (behind) c.loop-n.invariant.1))
 
 pub loop-n-preserved : goal.loop-n-preserved

@@ -3,20 +3,12 @@
 -- the heading
 -- the lines have room behind it
 -- and after the loop all of them are there
-use Prim.Native.Nat.{ℕ, ◌-◌, ◌≤◌, ◌<◌}
-use mathlib.Core.List.{[], ◌∷◌}
-use mathlib.Core.Path.{◌≡◌}
-use native.Mathlib.Omega.{arith}
-use borrow.Author.Rules.{rules}
+use Prim.Native.Nat.{◌-◌, ◌≤◌}
 use Rattle.scripts.specs.Script.{run}
 use Rattle.output.specs.Output.{pieces}
 use Rattle.reading.specs.Tex.{read_tex}
-use Rattle.layout.specs.Positions.{count_of}
-use Rattle.text.specs.Text.{decimal, line}
-use Rattle.text.specs.Put.{Room, Put}
-use Rattle.listing.specs.Lists.{list_word, entry_line, list_of}
-use Rattle.text.proofs.Puts.{put_none, put_then, put_length, room_first, room_then}
-use Rattle.listing.proofs.Lists.{room_line, put_line}
+use Rattle.text.specs.Put.{Put}
+use Rattle.listing.specs.Lists.{entry_line}
 use Rattle.listing.proofs.put_list.Given as goal
 
 abbrev pub invariant-loop-n : goal.invariant-loop-n

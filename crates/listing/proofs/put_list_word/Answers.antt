@@ -1,5 +1,4 @@
 -- `listing::put_list_word` meets its contract, word by word. Assumes nothing.
-use borrow.Author.Rules.{rules}
 use Rattle.text.specs.Text.{ascii}
 use Rattle.listing.proofs.put_list_word.Goals as goal
 

@@ -5,7 +5,6 @@ use mathlib.Core.Bool.{false}
 use mathlib.Core.List.{◌++◌}
 use lib.ListN.{length}
 use lib.Dec.{ltb}
-use borrow.Author.Rules.{rules}
 use Rattle.errors.specs.Refusal.{refusal_number, refusal_returned}
 use Rattle.errors.specs.declared.Kind.TheVariants.{Texture, Palette}
 use Rattle.scripts.specs.Script.{run}
@@ -35,7 +34,7 @@ put_list-at-requires c =
     let lists : let b = c.args.input.now in
     let l = c.in-Found.layout in
     listing_text b ≡ list_of Texture (run read_tex b) l.textures ++ list_of Palette (run read_tex b) l.palettes = listing_lists _ (short-enough) (laid) in
-        (laid, room_first _ _ (rw (lists) at c.requires))
+    (laid, room_first _ _ (rw (lists) at c.requires))
 
 pub put_list-requires : goal.put_list-requires
 put_list-requires c =
@@ -44,14 +43,14 @@ put_list-requires c =
     let lists : let b = c.args.input.now in
     let l = c.in-Found.layout in
     listing_text b ≡ list_of Texture (run read_tex b) l.textures ++ list_of Palette (run read_tex b) l.palettes = listing_lists _ (short-enough) (laid) in
-        (laid, room_then c.put_list-at.ensures (rw (lists) at c.requires))
+    (laid, room_then c.put_list-at.ensures (rw (lists) at c.requires))
 
 pub put_refused-requires-in-Refused : goal.put_refused-requires-in-Refused
 put_refused-requires-in-Refused c =
     let short-enough : ltb 65536 (length c.args.input.now) ≡ false = sym c.is_too_long.ensures ∙ c.if-is_too_long.false in
     let refused : let b = c.args.input.now in
     listing_text b ≡ refused_line (refusal_number c.in-Refused.refusal) (refusal_returned c.in-Refused.refusal) = listing_refused _ (short-enough) c.in-Refused.refusal (rw c.in-Refused.is at c.lay_out.ensures) in
-        rw (c.number.ensures, c.returned.ensures) (rw (refused) at c.requires)
+    rw (c.number.ensures, c.returned.ensures) (rw (refused) at c.requires)
 
 pub returns-in-Found : goal.returns-in-Found
 returns-in-Found c =
@@ -60,11 +59,11 @@ returns-in-Found c =
     let lists : let b = c.args.input.now in
     let l = c.in-Found.layout in
     listing_text b ≡ list_of Texture (run read_tex b) l.textures ++ list_of Palette (run read_tex b) l.palettes = listing_lists _ (short-enough) (laid) in
-        rw (lists) (put_then c.put_list-at.ensures c.put_list.ensures)
+    rw (lists) (put_then c.put_list-at.ensures c.put_list.ensures)
 
 pub returns-in-Refused : goal.returns-in-Refused
 returns-in-Refused c =
     let short-enough : ltb 65536 (length c.args.input.now) ≡ false = sym c.is_too_long.ensures ∙ c.if-is_too_long.false in
     let refused : let b = c.args.input.now in
     listing_text b ≡ refused_line (refusal_number c.in-Refused.refusal) (refusal_returned c.in-Refused.refusal) = listing_refused _ (short-enough) c.in-Refused.refusal (rw c.in-Refused.is at c.lay_out.ensures) in
-        rw (refused) (rw (c.number.ensures, c.returned.ensures) at c.put_refused-in-Refused.ensures)
+    rw (refused) (rw (c.number.ensures, c.returned.ensures) at c.put_refused-in-Refused.ensures)

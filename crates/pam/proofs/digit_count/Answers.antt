@@ -1,6 +1,5 @@
 -- `pam::digit_count` meets its contract: `io` counts the fewest digits, which are the decimal number's. Assumes nothing.
 use mathlib.Core.Path.{◌∙◌, ap}
-use borrow.Author.Rules.{rules}
 use lib.ListN.{length}
 use Rattle.text.proofs.Decimals.{decimal_digits}
 use Rattle.pam.proofs.digit_count.Goals as goal

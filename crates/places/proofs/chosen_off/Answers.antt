@@ -2,7 +2,6 @@
 use mathlib.Core.Path.{ap}
 use native.Mathlib.Omega.{arith}
 use borrow.Author.Tests.{ltb-true}
-use borrow.Author.Rules.{rules}
 use Rattle.places.specs.declared.PaletteOff.TheVariants.{At}
 use Rattle.places.proofs.chosen_off.Goals as goal
 

@@ -1,5 +1,4 @@
 -- `places::has_choice` meets its contract. Assumes nothing.
-use borrow.Author.Rules.{rules}
 use Rattle.places.proofs.has_choice.Goals as goal
 
 pub returns-in-Number : goal.returns-in-Number

@@ -1,5 +1,4 @@
 -- `places::locate` meets its contract: what the reading found is looked through. Assumes nothing.
-use borrow.Author.Rules.{rules}
 use Rattle.errors.specs.declared.Kind.TheVariants as kinds
 use Rattle.nitro.proofs.Answers.{not_laid}
 use Rattle.places.proofs.Sources.{no_sources}

@@ -1,7 +1,6 @@
 -- `places::locate_by` meets its contract: the layout says if texture and palette are there, and where the parts stand. Assumes nothing.
 -- the layout has texture n
 use mathlib.Core.Path.{◌≡◌, sym, ◌∙◌}
-use borrow.Author.Rules.{rules}
 use Rattle.util.specs.Outcome.{result}
 use Rattle.errors.specs.declared.Kind.TheVariants as kinds
 use Rattle.errors.specs.declared.Refusal.TheVariants.{Number}
@@ -27,7 +26,7 @@ pub returns-then-has_choice : goal.returns-then-has_choice
 returns-then-has_choice c =
     let there : result c.args.layout ≡ layout_with kinds.Texture c.args.n c.args.block.now (run read_tex c.args.block.now) = laid_entry kinds.Texture _ _ c.requires c.if-n-layout.true in
     let stands : SourcesFound c.args.n c.args.choice c.args.block.now c.args.layout = sources_found _ _ _ (there) in
-        rw (c.places_of.ensures, c.chosen_off-palette.ensures)
+    rw (c.places_of.ensures, c.chosen_off-palette.ensures)
     ((stands).there (sym c.has_choice.ensures ∙ c.if-has_choice.true))
 
 pub returns-else-has_choice : goal.returns-else-has_choice

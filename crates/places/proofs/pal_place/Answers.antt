@@ -1,6 +1,5 @@
 -- `places::pal_place` meets its contract: the header of the layout that was found says where the palette block is. Assumes nothing.
 use mathlib.Core.Path.{ap, ◌∙◌}
-use borrow.Author.Rules.{rules}
 use Rattle.util.specs.Outcome.{result}
 use Rattle.places.specs.Sources.{pal_place_of, pal_place_at}
 use Rattle.reading.specs.Layouts.{layout_answer}
@@ -16,4 +15,4 @@ returns-in-Found c =
 
 pub returns-in-Refused : goal.returns-in-Refused
 unfolding pal_place_of layout_answer
-returns-in-Refused c =     refused _ _ (follows_self _) _ _ c.in-Refused.refusal (rw c.in-Refused.is at c.lay_out.ensures)
+returns-in-Refused c = refused _ _ (follows_self _) _ _ c.in-Refused.refusal (rw c.in-Refused.is at c.lay_out.ensures)

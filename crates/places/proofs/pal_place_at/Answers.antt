@@ -1,5 +1,4 @@
 -- `places::pal_place_at` meets its contract. Assumes nothing.
-use borrow.Author.Rules.{rules}
 use Rattle.places.proofs.pal_place_at.Goals as goal
 
 pub returns : goal.returns

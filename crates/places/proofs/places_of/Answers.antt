@@ -1,5 +1,4 @@
 -- `places::places_of` meets its contract: each part stands where its own function says. Assumes nothing.
-use borrow.Author.Rules.{rules}
 use Rattle.places.specs.ByLayout.{places_by}
 use Rattle.places.proofs.places_of.Goals as goal
 

@@ -4,7 +4,6 @@ use mathlib.Core.Bool.{false}
 use lib.Dec.{eqb}
 use lib.ListN.{get_or}
 use borrow.Author.Tests.{eq-eqb, ne_eqb}
-use borrow.Author.Rules.{rules}
 use Rattle.reading.specs.Tex.{has_stamp}
 use Rattle.reading.proofs.Readings.{stamp_there}
 use Rattle.reading.proofs.has_stamp.Goals as goal

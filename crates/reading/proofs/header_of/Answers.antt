@@ -3,7 +3,6 @@ use Prim.Native.Nat.{ℕ, ◌+◌, ◌≤◌}
 use mathlib.Core.Path.{◌≡◌, sym, ap, ◌∙◌}
 use native.Mathlib.Omega.{arith}
 use lib.ListN.{take}
-use borrow.Author.Rules.{rules}
 use Rattle.util.specs.Number.{number_at}
 use Rattle.util.proofs.Numbers.{number_in_part}
 use Rattle.reading.specs.Tex.{header_of}

@@ -4,7 +4,6 @@ use Prim.Native.Nat.{◌≤◌}
 use mathlib.Core.Path.{ap, sym, ◌∙◌}
 use native.Mathlib.Omega.{arith}
 use lib.ListN.{length}
-use borrow.Author.Rules.{rules}
 use Rattle.util.specs.Outcome.{result}
 use Rattle.scripts.proofs.Runs.{take_within, whole_outcome, fault_outcome, refused}
 use Rattle.reading.proofs.Readings.{header_follows, stamp_bad, header_read}
@@ -28,10 +27,10 @@ returns-in-Refused c =
 pub returns-then-has_stamp : goal.returns-then-has_stamp
 returns-then-has_stamp c =
     let there : 60 ≤ length c.args.block.now = omega (arith, take_within _ _ _ (rw c.in-Done.is at c.take.ensures)) in
-        ap result c.header_of.ensures
+    ap result c.header_of.ensures
     ∙ whole_outcome result (header_read _ (there) (sym c.has_stamp.ensures ∙ c.if-has_stamp.true))
 
 pub returns-else-has_stamp : goal.returns-else-has_stamp
 returns-else-has_stamp c =
     let there : 60 ≤ length c.args.block.now = omega (arith, take_within _ _ _ (rw c.in-Done.is at c.take.ensures)) in
-        fault_outcome result (stamp_bad _ (there) (sym c.has_stamp.ensures ∙ c.if-has_stamp.false))
+    fault_outcome result (stamp_bad _ (there) (sym c.has_stamp.ensures ∙ c.if-has_stamp.false))

@@ -1,6 +1,5 @@
 -- `reading::read_palettes` meets its contract. Assumes nothing.
 use mathlib.Core.Path.{◌∙◌}
-use borrow.Author.Rules.{rules}
 use Rattle.reading.proofs.Readings.{palettes_read}
 use Rattle.reading.proofs.read_palettes.Goals as goal
 

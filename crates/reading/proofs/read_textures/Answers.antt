@@ -3,7 +3,6 @@
 -- the list, by the count that the code has
 use mathlib.Core.Path.{◌≡◌, ap, ◌∙◌}
 use lib.ListN.{length}
-use borrow.Author.Rules.{rules}
 use Rattle.util.specs.Outcome.{result}
 use Rattle.errors.specs.declared.Kind.TheVariants.{Texture}
 use Rattle.scripts.specs.Script.{run, whole, outcome_of}

@@ -1,18 +1,10 @@
 -- `reading::take_all_data` meets its contract: what is left of the row of textures has the whole row's outcome, which is the loop's
 -- invariant. Assumes nothing.
-use Prim.Native.Nat.{ℕ, suc, ◌+◌, ◌-◌, ◌≤◌}
+use Prim.Native.Nat.{suc, ◌+◌, ◌-◌}
 use mathlib.Core.Path.{◌≡◌, ap, sym, ◌∙◌}
-use mathlib.Core.List.{List}
 use native.Mathlib.Numerals.{add-one}
 use native.Mathlib.Omega.{arith}
-use borrow.Author.Rules.{rules}
-use Rattle.util.specs.Outcome.{Outcome, result}
-use Rattle.errors.specs.declared.Kind.TheVariants as kinds
-use Rattle.scripts.specs.Script.{Script, run, outcome_of, each_from}
-use Rattle.info_block.specs.InfoBlock.{list_at}
-use Rattle.reading.specs.Tex.{Texture, read_texture}
 use Rattle.reading.specs.Layouts.{counting, each_texture}
-use Rattle.layout.specs.declared.Header.{Header}
 use Rattle.scripts.proofs.Runs.{ended, each_turn, each_none, each_count, each_follows, follows_trans, refused}
 use Rattle.reading.proofs.Readings.{texture_follows, texture_read}
 use Rattle.reading.proofs.take_all_data.Invariants.{script, row}
@@ -31,7 +23,7 @@ returns-in-Refused c =
     ≡ counting (each_texture a.header a.count a.block.now) a.block.now = let a = c.args in
     let e : suc (a.count - (c.loop-i.i + 1)) ≡ a.count - c.loop-i.i = omega arith in
     ap (row a.block.now a.header a.count c.loop-i.i) e ∙ c.loop-i.invariant.1 in
-        let a = c.args in
+    let a = c.args in
     refused _ _ (follows_trans (texture_follows a.header _ _ _) (each_follows (script a.block.now a.header a.count) _ _ _)) _ _
     c.in-Refused.refusal
     (rw (c.params_at-params.ensures, c.in-Refused.is) at c.take_data.ensures)
@@ -44,7 +36,7 @@ loop-i-preserved c =
     ≡ counting (each_texture a.header a.count a.block.now) a.block.now = let a = c.args in
     let e : suc (a.count - (c.loop-i.i + 1)) ≡ a.count - c.loop-i.i = omega arith in
     ap (row a.block.now a.header a.count c.loop-i.i) e ∙ c.loop-i.invariant.1 in
-        let a = c.args in
+    let a = c.args in
     let i = c.loop-i.i in
     let there = ended _ _ (rw (c.params_at-params.ensures, c.in_default.is) at c.take_data.ensures) in
     let turn = each_turn (script a.block.now a.header a.count) a.block.now i (a.count - (i + 1)) a.count

@@ -1,11 +1,8 @@
 -- `reading::take_all_data` meets its contract: what is left of the row of textures has the whole row's outcome, which is the loop's
 -- invariant. Assumes nothing.
-use Prim.Native.Nat.{ℕ, suc, ◌+◌, ◌-◌, ◌≤◌}
-use mathlib.Core.Path.{◌≡◌, ap, sym, ◌∙◌}
+use Prim.Native.Nat.{ℕ, ◌-◌, ◌≤◌}
+use mathlib.Core.Path.{◌≡◌}
 use mathlib.Core.List.{List}
-use native.Mathlib.Numerals.{add-one}
-use native.Mathlib.Omega.{arith}
-use borrow.Author.Rules.{rules}
 use Rattle.util.specs.Outcome.{Outcome, result}
 use Rattle.errors.specs.declared.Kind.TheVariants as kinds
 use Rattle.scripts.specs.Script.{Script, run, outcome_of, each_from}
@@ -13,8 +10,6 @@ use Rattle.info_block.specs.InfoBlock.{list_at}
 use Rattle.reading.specs.Tex.{Texture, read_texture}
 use Rattle.reading.specs.Layouts.{counting, each_texture}
 use Rattle.layout.specs.declared.Header.{Header}
-use Rattle.scripts.proofs.Runs.{ended, each_turn, each_none, each_count, each_follows, follows_trans, refused}
-use Rattle.reading.proofs.Readings.{texture_follows, texture_read}
 use Rattle.reading.proofs.take_all_data.Given as goal
 
 module _ (block : List ℕ) (header : Header) (count : ℕ) where

@@ -1,7 +1,6 @@
 -- `reading::take_data` meets its contract: the second data is taken once the first is there. Assumes nothing.
 use mathlib.Core.Path.{◌∙◌}
 use native.Mathlib.Omega.{arith}
-use borrow.Author.Rules.{rules}
 use Rattle.nds.proofs.Sizes.{data_length_lt}
 use Rattle.scripts.proofs.Runs.{take_within, refused}
 use Rattle.reading.proofs.Readings.{data_follows, first_taken}

@@ -1,7 +1,6 @@
 -- `reading::take_data2` meets its contract. Assumes nothing.
 use mathlib.Core.Path.{ap, sym, ◌∙◌}
 use native.Mathlib.Omega.{arith}
-use borrow.Author.Rules.{rules}
 use Rattle.util.specs.Outcome.{result}
 use Rattle.nds.proofs.Sizes.{second_length_lt}
 use Rattle.scripts.specs.Script.{run, outcome_of}

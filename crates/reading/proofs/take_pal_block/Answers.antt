@@ -1,5 +1,4 @@
 -- `reading::take_pal_block` meets its contract. Assumes nothing.
-use borrow.Author.Rules.{rules}
 use Rattle.reading.specs.Tex.{read_pal_block}
 use Rattle.reading.proofs.take_pal_block.Goals as goal
 

@@ -7,7 +7,6 @@ use lib.ListN.{length-set}
 use Rattle.errors.specs.declared.Kind.TheVariants as kinds
 use Rattle.info_block.specs.InfoBlock.{list_at, entry_number}
 use Rattle.rows.specs.ByLayout.{row_by}
-use borrow.Author.Rules.{rules}
 use Rattle.rows.proofs.put_palette_row.Goals as goal
 
 pub bounds-rows-at-2 : goal.bounds-rows-at-2

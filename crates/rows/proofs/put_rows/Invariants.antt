@@ -1,14 +1,10 @@
 -- `rows::put_rows` meets its contract: the loop puts row behind row. Assumes nothing.
 -- the row that is put is one of those that there is room for
-use Prim.Native.Nat.{◌-◌, ◌≤◌, ◌<◌}
-use mathlib.Core.Path.{◌≡◌, refl, ◌∙◌}
-use native.Mathlib.Omega.{arith}
+use Prim.Native.Nat.{◌-◌, ◌≤◌}
+use mathlib.Core.Path.{◌≡◌}
 use lib.Seq.{sets}
-use borrow.Author.Rules.{rules}
 use Rattle.output.specs.Output.{pieces}
-use Rattle.layout.specs.Positions.{count_of}
-use Rattle.rows.specs.ByLayout.{row_length, row_by}
-use Rattle.rows.proofs.Entries.{row_behind, row_room, rows_same_length}
+use Rattle.rows.specs.ByLayout.{row_by}
 use Rattle.rows.proofs.put_rows.Given as goal
 
 abbrev pub invariant-loop-n : goal.invariant-loop-n

@@ -5,7 +5,6 @@ use lib.ListN.{length-set}
 use Rattle.rows.specs.ByLayout.{row_by}
 use Rattle.rows.specs.Rows.{told_pos}
 use Rattle.rows.proofs.Entries.{six_put}
-use borrow.Author.Rules.{rules}
 use Rattle.rows.proofs.put_texture_row.Goals as goal
 
 pub bounds-rows-at-2 : goal.bounds-rows-at-2

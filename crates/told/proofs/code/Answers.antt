@@ -1,6 +1,5 @@
 -- `told::code` meets its contract: no number of a refusal is large. Assumes nothing.
 use native.Mathlib.Omega.{arith}
-use borrow.Author.Rules.{rules}
 use Rattle.told.proofs.Codes.{number_small}
 use Rattle.told.proofs.code.Goals as goal
 

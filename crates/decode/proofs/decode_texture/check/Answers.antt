@@ -3,7 +3,6 @@
 use mathlib.Core.Path.{◌≡◌, sym, ◌∙◌}
 use mathlib.Core.Bool.{false}
 use native.Mathlib.Omega.{arith}
-use borrow.Author.Rules.{rules}
 use Rattle.nds.specs.Params.{format}
 use Rattle.decode.specs.Pictures.{lacks_palette, lacks_data}
 use Rattle.decode.proofs.Pictures.{no_palette_lem, no_texels, no_data, no_room, all_there}
@@ -18,7 +17,7 @@ returns-then-no_palette c =
 pub returns-then-format-eq0 : goal.returns-then-format-eq0
 returns-then-format-eq0 c =
     let chosen : let a = c.args in lacks_palette a.params.0 a.palette ≡ false = sym c.lacks_palette-no_palette.ensures ∙ c.if-no_palette.false in
-        let a = c.args in
+    let a = c.args in
     no_texels a.params.0 a.len1 a.len2 a.palette a.room
     (chosen) (omega (arith, c.format-format.ensures))
 
@@ -26,7 +25,7 @@ pub returns-then-no_data : goal.returns-then-no_data
 returns-then-no_data c =
     let chosen : let a = c.args in lacks_palette a.params.0 a.palette ≡ false = sym c.lacks_palette-no_palette.ensures ∙ c.if-no_palette.false in
     let some : format c.args.params.0 ≡ 0 → ⊥ = λ e. c.if-format-eq0.false (c.format-format.ensures ∙ e) in
-        let a = c.args in
+    let a = c.args in
     no_data a.params.0 a.len1 a.len2 a.palette a.room
     (chosen) (some) (sym c.lacks_data-no_data.ensures ∙ c.if-no_data.true)
 
@@ -35,7 +34,7 @@ returns-then-no_room c =
     let chosen : let a = c.args in lacks_palette a.params.0 a.palette ≡ false = sym c.lacks_palette-no_palette.ensures ∙ c.if-no_palette.false in
     let some : format c.args.params.0 ≡ 0 → ⊥ = λ e. c.if-format-eq0.false (c.format-format.ensures ∙ e) in
     let there : let a = c.args in lacks_data a.params.0 a.len1 a.len2 ≡ false = sym c.lacks_data-no_data.ensures ∙ c.if-no_data.false in
-        let a = c.args in
+    let a = c.args in
     no_room a.params.0 a.len1 a.len2 a.palette a.room
     (chosen) (some) (there) (sym c.lacks_room-no_room.ensures ∙ c.if-no_room.true)
 
@@ -44,6 +43,6 @@ returns c =
     let chosen : let a = c.args in lacks_palette a.params.0 a.palette ≡ false = sym c.lacks_palette-no_palette.ensures ∙ c.if-no_palette.false in
     let some : format c.args.params.0 ≡ 0 → ⊥ = λ e. c.if-format-eq0.false (c.format-format.ensures ∙ e) in
     let there : let a = c.args in lacks_data a.params.0 a.len1 a.len2 ≡ false = sym c.lacks_data-no_data.ensures ∙ c.if-no_data.false in
-        let a = c.args in
+    let a = c.args in
     all_there a.params.0 a.len1 a.len2 a.palette a.room
     (chosen) (some) (there) (sym c.lacks_room-no_room.ensures ∙ c.if-no_room.false)

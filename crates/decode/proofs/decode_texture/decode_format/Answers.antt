@@ -5,10 +5,8 @@ use Prim.Native.Nat.{ℕ, ◌*◌, ◌/◌, ◌≤◌, ◌<◌}
 use mathlib.Core.Path.{◌≡◌, sym, ◌∙◌, subst}
 use native.Mathlib.Omega.{arith}
 use lib.ListN.{length}
-use borrow.Author.Rules.{rules}
 use Rattle.nds.specs.Params.{format}
 use Rattle.nds.specs.Formats.{bits_per_texel}
-use Rattle.places.specs.Sources.{Sources}
 use Rattle.decode.specs.Pictures.{texel_count, sources}
 use Rattle.paint.specs.Paint.{IndexedFits}
 use Rattle.decode.proofs.Pictures.{eights, length_by, second_by, texel1, texel2, texel3, texel4, texel5, texel6, texel7}
@@ -26,7 +24,7 @@ decode_format1-requires c =
     → 0 < bits → bits ≤ 8 → n * bits ≤ 8 * length c.args.data1.now
     → IndexedFits bits n (length c.args.data1.now) (length c.args.out.now) = λ bits n within some byte there. let count = c.num_texels-n.ensures.1 in
     record { some = some; byte = byte; small = omega arith; there = there; room = omega (arith, room) } in
-        let there = data-there 1 (omega (arith, c.format-format.ensures)) in
+    let there = data-there 1 (omega (arith, c.format-format.ensures)) in
     fits 8 _ (omega arith) (omega arith) (omega arith) (omega (arith, (eights c.args.params.0).texels, texel-count))
 
 pub decode_format2-requires : goal.decode_format2-requires
@@ -40,7 +38,7 @@ decode_format2-requires c =
     → 0 < bits → bits ≤ 8 → n * bits ≤ 8 * length c.args.data1.now
     → IndexedFits bits n (length c.args.data1.now) (length c.args.out.now) = λ bits n within some byte there. let count = c.num_texels-n.ensures.1 in
     record { some = some; byte = byte; small = omega arith; there = there; room = omega (arith, room) } in
-        let there = data-there 2 (omega (arith, c.format-format.ensures)) in
+    let there = data-there 2 (omega (arith, c.format-format.ensures)) in
     fits 2 _ (omega arith) (omega arith) (omega arith) (omega (arith, (eights c.args.params.0).texels, texel-count))
 
 pub decode_format3-requires : goal.decode_format3-requires
@@ -54,7 +52,7 @@ decode_format3-requires c =
     → 0 < bits → bits ≤ 8 → n * bits ≤ 8 * length c.args.data1.now
     → IndexedFits bits n (length c.args.data1.now) (length c.args.out.now) = λ bits n within some byte there. let count = c.num_texels-n.ensures.1 in
     record { some = some; byte = byte; small = omega arith; there = there; room = omega (arith, room) } in
-        let there = data-there 3 (omega (arith, c.format-format.ensures)) in
+    let there = data-there 3 (omega (arith, c.format-format.ensures)) in
     fits 4 _ (omega arith) (omega arith) (omega arith) (omega (arith, (eights c.args.params.0).texels, texel-count))
 
 pub decode_format4-requires : goal.decode_format4-requires
@@ -68,7 +66,7 @@ decode_format4-requires c =
     → 0 < bits → bits ≤ 8 → n * bits ≤ 8 * length c.args.data1.now
     → IndexedFits bits n (length c.args.data1.now) (length c.args.out.now) = λ bits n within some byte there. let count = c.num_texels-n.ensures.1 in
     record { some = some; byte = byte; small = omega arith; there = there; room = omega (arith, room) } in
-        let there = data-there 4 (omega (arith, c.format-format.ensures)) in
+    let there = data-there 4 (omega (arith, c.format-format.ensures)) in
     fits 8 _ (omega arith) (omega arith) (omega arith) (omega (arith, (eights c.args.params.0).texels, texel-count))
 
 pub decode_format5-requires : goal.decode_format5-requires
@@ -78,7 +76,7 @@ decode_format5-requires c =
     let data-there : (f : ℕ) → format c.args.params.0 ≡ f
     → c.num_texels-n.result * bits_per_texel f / 8 ≤ length c.args.data1.now = λ f e. let there = subst (λ k. k ≤ length c.args.data1.now) (length_by c.args.params.0 e) c.requires.data1 in
     subst (λ k. k * bits_per_texel f / 8 ≤ length c.args.data1.now) (sym (texel-count)) there in
-        let w = c.args.params.0 in
+    let w = c.args.params.0 in
     let is : format w ≡ 5 = omega (arith, c.format-format.ensures) in
     let e = eights w in
     rw (c.width-width.ensures, c.height-height.ensures)
@@ -102,7 +100,7 @@ decode_format6-requires c =
     → 0 < bits → bits ≤ 8 → n * bits ≤ 8 * length c.args.data1.now
     → IndexedFits bits n (length c.args.data1.now) (length c.args.out.now) = λ bits n within some byte there. let count = c.num_texels-n.ensures.1 in
     record { some = some; byte = byte; small = omega arith; there = there; room = omega (arith, room) } in
-        let there = data-there 6 (omega (arith, c.format-format.ensures)) in
+    let there = data-there 6 (omega (arith, c.format-format.ensures)) in
     fits 8 _ (omega arith) (omega arith) (omega arith) (omega (arith, (eights c.args.params.0).texels, texel-count))
 
 pub decode_format7-requires : goal.decode_format7-requires
@@ -113,13 +111,13 @@ decode_format7-requires c =
     → c.num_texels-n.result * bits_per_texel f / 8 ≤ length c.args.data1.now = λ f e. let there = subst (λ k. k ≤ length c.args.data1.now) (length_by c.args.params.0 e) c.requires.data1 in
     subst (λ k. k * bits_per_texel f / 8 ≤ length c.args.data1.now) (sym (texel-count)) there in
     let seven : format c.args.params.0 ≡ 7 = omega (arith, c.format-format.ensures, c.requires.some) in
-        let there = data-there 7 (seven) in
+    let there = data-there 7 (seven) in
     (omega (arith, room), omega (arith, (eights c.args.params.0).texels, texel-count))
 
 pub returns-in-1 : goal.returns-in-1
 returns-in-1 c =
     let texel-count : c.num_texels-n.result ≡ texel_count c.args.params.0 = c.num_texels-n.ensures.0 in
-        c.decode_format1.ensures
+    c.decode_format1.ensures
     ∙ painted_same _ _ _
     (λ i. rw c.off_of-off.ensures (texel1 (let a = c.args in sources a.params.0 a.data1.now a.data2.now a.palette a.pal.now) i (omega (arith, c.format-format.ensures))))
     (omega (arith, texel-count))
@@ -127,7 +125,7 @@ returns-in-1 c =
 pub returns-in-2 : goal.returns-in-2
 returns-in-2 c =
     let texel-count : c.num_texels-n.result ≡ texel_count c.args.params.0 = c.num_texels-n.ensures.0 in
-        c.decode_format2.ensures
+    c.decode_format2.ensures
     ∙ painted_same _ _ _
     (λ i. rw (c.off_of-off.ensures, c.is_color0_transparent-clear0.ensures) (texel2 (let a = c.args in sources a.params.0 a.data1.now a.data2.now a.palette a.pal.now) i (omega (arith, c.format-format.ensures))))
     (omega (arith, texel-count))
@@ -135,7 +133,7 @@ returns-in-2 c =
 pub returns-in-3 : goal.returns-in-3
 returns-in-3 c =
     let texel-count : c.num_texels-n.result ≡ texel_count c.args.params.0 = c.num_texels-n.ensures.0 in
-        c.decode_format3.ensures
+    c.decode_format3.ensures
     ∙ painted_same _ _ _
     (λ i. rw (c.off_of-off.ensures, c.is_color0_transparent-clear0.ensures) (texel3 (let a = c.args in sources a.params.0 a.data1.now a.data2.now a.palette a.pal.now) i (omega (arith, c.format-format.ensures))))
     (omega (arith, texel-count))
@@ -143,7 +141,7 @@ returns-in-3 c =
 pub returns-in-4 : goal.returns-in-4
 returns-in-4 c =
     let texel-count : c.num_texels-n.result ≡ texel_count c.args.params.0 = c.num_texels-n.ensures.0 in
-        c.decode_format4.ensures
+    c.decode_format4.ensures
     ∙ painted_same _ _ _
     (λ i. rw (c.off_of-off.ensures, c.is_color0_transparent-clear0.ensures) (texel4 (let a = c.args in sources a.params.0 a.data1.now a.data2.now a.palette a.pal.now) i (omega (arith, c.format-format.ensures))))
     (omega (arith, texel-count))
@@ -158,7 +156,7 @@ returns-in-5 c =
 pub returns-in-6 : goal.returns-in-6
 returns-in-6 c =
     let texel-count : c.num_texels-n.result ≡ texel_count c.args.params.0 = c.num_texels-n.ensures.0 in
-        c.decode_format6.ensures
+    c.decode_format6.ensures
     ∙ painted_same _ _ _
     (λ i. rw c.off_of-off.ensures (texel6 (let a = c.args in sources a.params.0 a.data1.now a.data2.now a.palette a.pal.now) i (omega (arith, c.format-format.ensures))))
     (omega (arith, texel-count))
@@ -167,7 +165,7 @@ pub returns-in_default : goal.returns-in_default
 returns-in_default c =
     let texel-count : c.num_texels-n.result ≡ texel_count c.args.params.0 = c.num_texels-n.ensures.0 in
     let seven : format c.args.params.0 ≡ 7 = omega (arith, c.format-format.ensures, c.requires.some) in
-        c.decode_format7.ensures
+    c.decode_format7.ensures
     ∙ painted_same _ _ _
     (λ i. texel7 (let a = c.args in sources a.params.0 a.data1.now a.data2.now a.palette a.pal.now) i (seven))
     (omega (arith, texel-count))

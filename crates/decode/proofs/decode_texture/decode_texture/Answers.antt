@@ -1,7 +1,6 @@
 -- `decode::decode_texture::decode_texture` meets its contract: the checks decide, and then the texels are written. Assumes nothing.
 -- where the function begins
 use lib.ListN.{length}
-use borrow.Author.Rules.{rules}
 use Rattle.decode.specs.Pictures.{sources}
 use Rattle.decode.proofs.Pictures.{Ready, ready_if, writes_declined, writes_decoded}
 use Rattle.decode.proofs.decode_texture.decode_texture.Goals as goal
@@ -22,7 +21,7 @@ pub returns : goal.returns
 returns c =
     let passed : let a = c.args in
     Ready a.params.0 (length a.data1.now) (length a.data2.now) a.palette (length a.out.now) = ready_if _ _ _ _ _ (rw c.in_default.is at c.check.ensures) in
-        let a = c.args in
+    let a = c.args in
     rw (c.num_texels-len.ensures.0, c.decode_format.ensures)
     (writes_decoded (sources a.params.0 a.data1.now a.data2.now a.palette a.pal.now) a.out.now
     (passed).is (passed).decodable.room)

@@ -1,6 +1,5 @@
 -- `decode::decode_texture::lacks_data` meets its contract. Assumes nothing.
 use native.Mathlib.Omega.{arith}
-use borrow.Author.Rules.{rules}
 use borrow.Author.Tests.{lt-ltb, le-ltb}
 use Rattle.nds.specs.Formats.{data_length}
 use Rattle.decode.proofs.decode_texture.lacks_data.Goals as goal

@@ -1,5 +1,4 @@
 -- `decode::decode_texture::lacks_room` meets its contract. Assumes nothing.
-use borrow.Author.Rules.{rules}
 use Rattle.decode.proofs.decode_texture.lacks_room.Goals as goal
 
 pub returns : goal.returns

@@ -1,7 +1,6 @@
 -- `decode::decode_texture::num_texels` meets its contract. Assumes nothing.
 use Prim.Native.Nat.{◌*◌, ◌<◌, ◌^◌}
 use native.Mathlib.Omega.{arith}
-use borrow.Author.Rules.{rules}
 use Rattle.nds.proofs.Sizes.{width_le, height_le, area_lt}
 use Rattle.decode.proofs.decode_texture.num_texels.Goals as goal
 

@@ -1,5 +1,4 @@
 -- `decode::picture::picture` meets its contract: what was located is decoded. Assumes nothing.
-use borrow.Author.Rules.{rules}
 use Rattle.output.proofs.Outputs.{writes_refusal}
 use Rattle.places.proofs.Sources.{located_sources, located_refused}
 use Rattle.decode.proofs.Pictures.{picture_found, picture_refused}

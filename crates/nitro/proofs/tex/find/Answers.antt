@@ -1,6 +1,5 @@
 -- `nitro::tex::find` meets its contract: the entry is there exactly if its number is below the count. Assumes nothing.
 -- the layout that was found is the block's
-use borrow.Author.Rules.{rules}
 use Rattle.reading.specs.Layouts.{LaidOut}
 use Rattle.nitro.proofs.Answers.{laid_entry, laid_no_entry, not_laid}
 use Rattle.nitro.proofs.tex.find.Goals as goal

@@ -1,6 +1,5 @@
 -- `nitro::tex::pal_block` meets its contract: the reading took the part that is handed out. Assumes nothing.
 use mathlib.Core.Path.{◌∙◌}
-use borrow.Author.Rules.{rules}
 use Rattle.nitro.proofs.Answers.{laid_pal_block, no_pal_block}
 use Rattle.nitro.proofs.tex.pal_block.Goals as goal
 
@@ -11,4 +10,4 @@ returns-in-Found c =
     (laid_pal_block _ (record { is = rw c.in-Found.is at c.lay_out.ensures }))
 
 pub returns-in-Refused : goal.returns-in-Refused
-returns-in-Refused c =     no_pal_block _ c.in-Refused.field-0 (rw c.in-Refused.is at c.lay_out.ensures)
+returns-in-Refused c = no_pal_block _ c.in-Refused.field-0 (rw c.in-Refused.is at c.lay_out.ensures)

@@ -1,6 +1,5 @@
 -- `nitro::tex::palette` meets its contract: palette n is the record by the layout that was found. Assumes nothing.
 use mathlib.Core.Path.{refl}
-use borrow.Author.Rules.{rules}
 use Rattle.errors.specs.declared.Kind.TheVariants as kinds
 use Rattle.nitro.specs.Calls.{no_palette, palette_of}
 use Rattle.nitro.proofs.Answers.{no_palette_lem, entry_laid, answers_done, answers_refused}

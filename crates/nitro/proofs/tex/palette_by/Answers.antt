@@ -1,7 +1,6 @@
 -- `nitro::tex::palette_by` meets its contract: the layout says where palette n stands. Assumes nothing.
 use mathlib.Core.Path.{ap, ◌∙◌}
 use native.Mathlib.Omega.{arith}
-use borrow.Author.Rules.{rules}
 use Rattle.util.specs.Outcome.{result}
 use Rattle.errors.specs.declared.Kind.TheVariants as kinds
 use Rattle.nitro.specs.Calls.{palette_record, palette_of}
@@ -22,5 +21,5 @@ pub returns : goal.returns
 unfolding palette_of
 returns c =
     let there : PaletteFound c.args.n c.args.block.now c.args.layout = palette_found _ _ (laid_entry kinds.Palette _ _ c.requires.0 c.requires.1) in
-        let t = there in
+    let t = there in
     ap result (rw (c.entry_name-name.ensures, c.off_at-off.ensures, t.at)) ∙ t.entry (λ x. palette_record x.name x.off)

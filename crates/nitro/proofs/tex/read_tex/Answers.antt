@@ -1,5 +1,4 @@
 -- `nitro::tex::read_tex` meets its contract. Assumes nothing.
-use borrow.Author.Rules.{rules}
 use Rattle.nitro.specs.Calls.{reading_of}
 use Rattle.reading.specs.Layouts.{layout_answer}
 use Rattle.nitro.proofs.Answers.{reading_laid}

@@ -1,5 +1,4 @@
 -- `nitro::tex::texture` meets its contract: texture n is the record by the layout that was found. Assumes nothing.
-use borrow.Author.Rules.{rules}
 use Rattle.errors.specs.declared.Kind.TheVariants as kinds
 use Rattle.nitro.specs.Calls.{no_texture, texture_of}
 use Rattle.nitro.proofs.Answers.{no_texture_lem, entry_laid, answers_done, answers_refused}

@@ -1,7 +1,6 @@
 -- `nitro::tex::texture_by` meets its contract: the layout says where texture n stands. Assumes nothing.
 use mathlib.Core.Path.{ap, ◌∙◌}
 use native.Mathlib.Omega.{arith}
-use borrow.Author.Rules.{rules}
 use Rattle.util.specs.Outcome.{result}
 use Rattle.errors.specs.declared.Kind.TheVariants as kinds
 use Rattle.nitro.specs.Calls.{texture_record, texture_of}
@@ -22,6 +21,6 @@ pub returns : goal.returns
 unfolding texture_of
 returns c =
     let there : TextureFound c.args.n c.args.block.now c.args.layout = texture_found _ _ (laid_entry kinds.Texture _ _ c.requires.0 c.requires.1) in
-        let t = there in
+    let t = there in
     ap result (c.texture_record.ensures ∙ rw (c.entry_name-name.ensures, c.params_at-params.ensures, t.at.name, t.at.word))
     ∙ t.entry (λ x. texture_record x.name x.word)

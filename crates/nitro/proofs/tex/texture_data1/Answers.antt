@@ -1,7 +1,6 @@
 -- `nitro::tex::texture_data1` meets its contract: the part is where the layout that was found says. Assumes nothing.
 use mathlib.Core.Path.{sym, ap, ◌∙◌}
 use native.Mathlib.Omega.{arith}
-use borrow.Author.Rules.{rules}
 use Rattle.nitro.specs.Calls.{part_of, data1_of}
 use Rattle.nitro.proofs.Answers.{TextureFound, texture_found, no_texture_lem}
 use Rattle.nitro.proofs.tex.texture_data1.Goals as goal
@@ -15,11 +14,11 @@ pub returns-in-Found : goal.returns-in-Found
 unfolding data1_of
 returns-in-Found c =
     let there : let a = c.args in TextureFound a.n a.block.now c.in-Found.layout = texture_found _ _ (rw c.in-Found.is at c.find.ensures) in
-        let t = there in
+    let t = there in
     c.part_at.ensures
     ∙ (rw (c.data1_pos.ensures.0, c.byte_len.ensures, c.params_at-params.ensures) (sym t.at.parts.first)
     ∙ ap part_of (t.entry (λ x. x.parts.data1)))
 
 pub returns-in-Refused : goal.returns-in-Refused
 unfolding data1_of
-returns-in-Refused c =     ap part_of (no_texture_lem _ _ _ c.in-Refused.field-0 (rw c.in-Refused.is at c.find.ensures))
+returns-in-Refused c = ap part_of (no_texture_lem _ _ _ c.in-Refused.field-0 (rw c.in-Refused.is at c.find.ensures))

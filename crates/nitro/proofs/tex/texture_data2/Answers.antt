@@ -1,7 +1,6 @@
 -- `nitro::tex::texture_data2` meets its contract: the part is where the layout that was found says. Assumes nothing.
 use mathlib.Core.Path.{sym, ap, ◌∙◌}
 use native.Mathlib.Omega.{arith}
-use borrow.Author.Rules.{rules}
 use Rattle.nitro.specs.Calls.{part_of, data2_of}
 use Rattle.nitro.proofs.Answers.{TextureFound, texture_found, no_texture_lem}
 use Rattle.nitro.proofs.tex.texture_data2.Goals as goal
@@ -15,11 +14,11 @@ pub returns-in-Found : goal.returns-in-Found
 unfolding data2_of
 returns-in-Found c =
     let there : let a = c.args in TextureFound a.n a.block.now c.in-Found.layout = texture_found _ _ (rw c.in-Found.is at c.find.ensures) in
-        let t = there in
+    let t = there in
     c.part_at.ensures
     ∙ (rw (c.data2_pos.ensures.0, c.byte_len2.ensures, c.params_at-params.ensures) (sym t.at.parts.second)
     ∙ ap part_of (t.entry (λ x. x.parts.data2)))
 
 pub returns-in-Refused : goal.returns-in-Refused
 unfolding data2_of
-returns-in-Refused c =     ap part_of (no_texture_lem _ _ _ c.in-Refused.field-0 (rw c.in-Refused.is at c.find.ensures))
+returns-in-Refused c = ap part_of (no_texture_lem _ _ _ c.in-Refused.field-0 (rw c.in-Refused.is at c.find.ensures))
