@@ -1,0 +1,3 @@
+pub mod AsksWith
+pub mod Cursor
+pub mod Walks
