@@ -1,6 +1,5 @@
 -- `block_calls::show_all` meets its contract: its turns are counted. Assumes nothing.
 use Prim.Native.Nat.{◌≤◌}
-use borrow.Author.Rules.{rules}
 use Rattle.block_calls.proofs.show_all.Given as goal
 
 abbrev pub invariant-loop-turns : goal.invariant-loop-turns
