@@ -2,12 +2,11 @@
 
 #![tactic(auto)]
 
-use report::STDOUT_FILENO;
 use errors::{Counted, Refusal, Status};
 use name::Name;
 use nitro::tex;
 use nitro::tex::TextureRecord;
-use report::{alpha, number, text, wrap};
+use report::{STDOUT_FILENO, alpha, number, text, wrap};
 
 // Prints a refusal's number, and for a short block what is returned beside it.
 pub fn refused(refusal: Refusal) {

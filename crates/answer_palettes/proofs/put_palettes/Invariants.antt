@@ -2,7 +2,6 @@
 use Prim.Native.Nat.{◌-◌, ◌≤◌}
 use mathlib.Core.Path.{◌≡◌}
 use lib.ListN.{length}
-use borrow.Author.Rules.{rules}
 use Rattle.answer_palettes.proofs.put_palettes.Given as goal
 
 abbrev pub invariant-loop-n : goal.invariant-loop-n

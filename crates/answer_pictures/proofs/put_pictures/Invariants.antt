@@ -2,7 +2,6 @@
 use Prim.Native.Nat.{◌-◌, ◌≤◌}
 use mathlib.Core.Path.{◌≡◌}
 use lib.ListN.{length}
-use borrow.Author.Rules.{rules}
 use Rattle.answer_pictures.proofs.put_pictures.Given as goal
 
 abbrev pub invariant-loop-n : goal.invariant-loop-n

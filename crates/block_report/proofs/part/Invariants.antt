@@ -1,7 +1,6 @@
 -- `block_report::part` meets its contract. Assumes nothing.
 use Prim.Native.Nat.{◌-◌, ◌≤◌}
 use lib.ListN.{length}
-use borrow.Author.Rules.{rules}
 use Rattle.block_report.proofs.part.Given as goal
 
 abbrev pub invariant-loop-i : goal.invariant-loop-i

@@ -1,11 +1,8 @@
 -- `cases::add_all` meets its contract. Assumes nothing.
 use Prim.Native.Nat.{◌-◌, ◌≤◌}
-use mathlib.Core.Path.{◌≡◌, ◌∙◌}
+use mathlib.Core.Path.{◌≡◌}
 use lib.ListN.{length, drop}
-use native.Mathlib.Omega.{arith}
-use borrow.Author.Rules.{rules}
 use Rattle.cases.specs.Cases.{added_all}
-use Rattle.cases.proofs.Laws.{sum_four_on}
 use Rattle.cases.proofs.add_all.Given as goal
 
 abbrev pub invariant-loop-i : goal.invariant-loop-i

@@ -1,5 +1,4 @@
 -- `cases::add_four` meets its contract. Assumes nothing.
-use borrow.Author.Rules.{rules}
 use Rattle.cases.proofs.Laws.{four}
 use Rattle.cases.proofs.add_four.Goals as goal
 

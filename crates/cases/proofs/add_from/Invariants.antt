@@ -1,10 +1,8 @@
 -- `cases::add_from` meets its contract. Assumes nothing.
 use Prim.Native.Nat.{◌-◌, ◌≤◌}
-use mathlib.Core.Path.{◌≡◌, sym, ◌∙◌}
+use mathlib.Core.Path.{◌≡◌}
 use lib.ListN.{length, drop}
-use borrow.Author.Rules.{rules}
 use Rattle.cases.specs.Cases.{added_all}
-use Rattle.cases.proofs.Laws.{sum_on, sum_end}
 use Rattle.cases.proofs.add_from.Given as goal
 
 abbrev pub invariant-loop-i : goal.invariant-loop-i

@@ -1,5 +1,4 @@
 -- `cases::field` meets its contract: of its take, which passed or was short. Assumes nothing.
-use borrow.Author.Rules.{rules}
 use Rattle.cases.proofs.Laws.{field_there, field_none}
 use Rattle.cases.proofs.field.Goals as goal
 

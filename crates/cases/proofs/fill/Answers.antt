@@ -1,17 +1,14 @@
 -- `cases::fill` meets its contract. Assumes nothing.
-use Prim.Native.Nat.{ℕ, ◌-◌, ◌≤◌, ◌<◌}
-use mathlib.Core.Path.{◌≡◌, ◌∙◌}
-use lib.ListN.{length, get_or, length-set}
+use mathlib.Core.Path.{◌∙◌}
+use lib.ListN.{length-set}
 use native.Mathlib.Omega.{arith}
 use lib.Seq.{get_or-set_same, get_or-set_other}
 use borrow.Author.Count.{below_more}
 use borrow.Author.Rules.{rules}
-use Rattle.cases.specs.Cases.{pattern_at}
 use Rattle.cases.proofs.fill.Goals as goal
 
 pub loop-i-preserved : goal.loop-i-preserved
-loop-i-preserved c =
- (
+loop-i-preserved c = (
   search rules,
   simp length-set (search rules),
   below_more

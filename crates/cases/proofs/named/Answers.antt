@@ -1,5 +1,4 @@
 -- `cases::named` meets its contract: both fields are the case's. Assumes nothing.
-use borrow.Author.Rules.{rules}
 use Rattle.cases.proofs.named.Goals as goal
 
 pub returns : goal.returns

@@ -2,7 +2,6 @@
 use mathlib.Core.Path.{sym}
 use native.Mathlib.Omega.{arith}
 use lib.Seq.{length-take-le}
-use borrow.Author.Rules.{rules}
 use Rattle.listing_report.proofs.listed_to.Goals as goal
 
 pub slice_bounds-listed-end-then-len-out : goal.slice_bounds-listed-end-then-len-out

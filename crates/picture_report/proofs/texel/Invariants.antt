@@ -1,7 +1,6 @@
 -- `picture_report::texel` meets its contract. Assumes nothing.
 use Prim.Native.Nat.{◌-◌, ◌≤◌}
 use lib.ListN.{length}
-use borrow.Author.Rules.{rules}
 use Rattle.picture_report.proofs.texel.Given as goal
 
 abbrev pub invariant-loop-i : goal.invariant-loop-i

@@ -2,7 +2,6 @@
 use mathlib.Core.Path.{sym}
 use native.Mathlib.Omega.{arith}
 use lib.Seq.{length-take-le}
-use borrow.Author.Rules.{rules}
 use Rattle.replay_cases.proofs.next_bytes.Goals as goal
 
 pub slice_bounds-read_full-end-2 : goal.slice_bounds-read_full-end-2

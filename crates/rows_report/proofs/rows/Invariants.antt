@@ -1,7 +1,6 @@
 -- `rows_report::rows` meets its contract. Assumes nothing.
 use Prim.Native.Nat.{◌-◌, ◌≤◌}
 use lib.ListN.{length}
-use borrow.Author.Rules.{rules}
 use Rattle.rows_report.proofs.rows.Given as goal
 
 abbrev pub invariant-loop-i : goal.invariant-loop-i

@@ -1,6 +1,5 @@
 -- `texture_words::main` is safe and ends: the loop's variable stays within the list of words. Assumes nothing.
 use Prim.Native.Nat.{◌≤◌, ◌-◌}
-use borrow.Author.Rules.{rules}
 use Rattle.texture_words.proofs.main.Given as goal
 
 abbrev pub invariant-loop-i : goal.invariant-loop-i
