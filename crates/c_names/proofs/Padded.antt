@@ -5,7 +5,6 @@ use mathlib.Core.List.{List, ◌++◌, append-nil}
 use native.Mathlib.Omega.{arith}
 use lib.ListN.{length, take, drop, replicate, length-replicate, replicate-append-replicate}
 use lib.Seq.{take-append-le, take-append-add, take_all, drop-append_seam, length-take-le, sets}
-use Rattle.util.specs.Outcome.{◌>>=◌}
 use Rattle.output.proofs.Outputs.{sets_start}
 use Rattle.told.specs.Told.{name_of}
 

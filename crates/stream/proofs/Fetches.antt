@@ -9,7 +9,7 @@ use lib.Dec.{eqb}
 use borrow.Author.Tests.{eqb-true}
 use Rattle.util.specs.Outcome.{Outcome, result, refusal}
 use Rattle.output.proofs.Outputs.{refused_keeps}
-use Rattle.scripts.specs.Script.{short, ends, records}
+use Rattle.scripts.specs.Script.{ends, records}
 use Rattle.reading.specs.Tex.{read_tex}
 use Rattle.places.specs.declared.PaletteChoice.{PaletteChoice}
 use Rattle.scripts.proofs.Early.{early_settled, early_waits}

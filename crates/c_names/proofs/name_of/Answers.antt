@@ -2,7 +2,6 @@
 use mathlib.Core.Path.{sym, ◌∙◌}
 use native.Mathlib.Omega.{arith}
 use lib.Seq.{length-take-le}
-use borrow.Author.Rules.{rules}
 use Rattle.c_names.proofs.Padded.{name_padded, name_cut}
 use Rattle.c_names.proofs.name_of.Goals as goal
 

@@ -1,5 +1,4 @@
 -- `c_names::rasclanya_print_safe` meets its contract. Assumes nothing.
-use borrow.Author.Rules.{rules}
 use Rattle.c_names.proofs.rasclanya_print_safe.Goals as goal
 
 pub returns : goal.returns

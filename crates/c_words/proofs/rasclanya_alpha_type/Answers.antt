@@ -1,6 +1,5 @@
 -- `c_words::rasclanya_alpha_type` meets its contract. Assumes nothing.
 use mathlib.Core.Path.{ap, ◌∙◌}
-use borrow.Author.Rules.{rules}
 use Rattle.told.specs.Told.{alpha_number}
 use Rattle.c_words.proofs.rasclanya_alpha_type.Goals as goal
 

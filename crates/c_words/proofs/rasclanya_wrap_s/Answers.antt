@@ -1,6 +1,5 @@
 -- `c_words::rasclanya_wrap_s` meets its contract. Assumes nothing.
 use mathlib.Core.Path.{ap, ◌∙◌}
-use borrow.Author.Rules.{rules}
 use Rattle.told.specs.Told.{wrap_number}
 use Rattle.c_words.proofs.rasclanya_wrap_s.Goals as goal
 

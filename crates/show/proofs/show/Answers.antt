@@ -2,7 +2,6 @@
 use mathlib.Core.Path.{◌≡◌, sym, ◌∙◌}
 use mathlib.Core.Bool.{false}
 use native.Mathlib.Omega.{arith}
-use borrow.Author.Rules.{rules}
 use Rattle.show.specs.Show.{too_long}
 use Rattle.show.proofs.Shows.{shows_too_long, shows_image, shows_refused}
 use Rattle.show.proofs.show.Goals as goal
@@ -22,6 +21,6 @@ pub returns-in-Refused : goal.returns-in-Refused
 returns-in-Refused c =
     let read : too_long c.args.file.now ≡ false = sym c.is_too_long.ensures ∙ c.if-is_too_long.false in
     let s =
-        shows_refused c.args.file.now c.args.n c.args.choice c.args.out.now (omega arith) c.in-Refused.refusal read (rw c.in-Refused.is at c.pam.ensures)
+    shows_refused c.args.file.now c.args.n c.args.choice c.args.out.now (omega arith) c.in-Refused.refusal read (rw c.in-Refused.is at c.pam.ensures)
     in
     rw (c.number.ensures, c.returned.ensures) (record { value = s.0; out_after = s.1 })

@@ -1,5 +1,4 @@
 -- `c_blocks::list::rasclanya_list` meets its contract. Assumes nothing.
-use borrow.Author.Rules.{rules}
 use Rattle.c_blocks.proofs.list.rasclanya_list.Goals as goal
 
 pub returns : goal.returns

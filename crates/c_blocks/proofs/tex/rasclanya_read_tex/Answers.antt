@@ -1,5 +1,4 @@
 -- `c_blocks::tex::rasclanya_read_tex` meets its contract. Assumes nothing.
-use borrow.Author.Rules.{rules}
 use Rattle.c_blocks.proofs.tex.rasclanya_read_tex.Goals as goal
 
 pub returns : goal.returns

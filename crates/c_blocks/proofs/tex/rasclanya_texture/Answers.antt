@@ -1,7 +1,6 @@
 -- `c_blocks::tex::rasclanya_texture` meets its contract. Assumes nothing.
 use mathlib.Core.Path.{refl}
 use native.Mathlib.Omega.{arith}
-use borrow.Author.Rules.{rules}
 use Rattle.c_blocks.proofs.Named.{named_there, named_short, named_refused}
 use Rattle.c_blocks.proofs.tex.rasclanya_texture.Goals as goal
 

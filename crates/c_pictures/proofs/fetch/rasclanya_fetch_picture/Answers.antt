@@ -1,5 +1,4 @@
 -- `c_pictures::fetch::rasclanya_fetch_picture` meets its contract. Assumes nothing.
-use borrow.Author.Rules.{rules}
 use Rattle.c_pictures.proofs.fetch.rasclanya_fetch_picture.Goals as goal
 
 pub returns : goal.returns

@@ -1,5 +1,4 @@
 -- `c_pictures::fetch::rasclanya_fetch_tex` meets its contract. Assumes nothing.
-use borrow.Author.Rules.{rules}
 use Rattle.c_pictures.proofs.fetch.rasclanya_fetch_tex.Goals as goal
 
 pub returns : goal.returns

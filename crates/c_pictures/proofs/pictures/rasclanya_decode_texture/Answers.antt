@@ -1,5 +1,4 @@
 -- `c_pictures::pictures::rasclanya_decode_texture` meets its contract. Assumes nothing.
-use borrow.Author.Rules.{rules}
 use Rattle.c_pictures.proofs.pictures.rasclanya_decode_texture.Goals as goal
 
 pub returns : goal.returns

@@ -1,5 +1,4 @@
 -- `c_pictures::pictures::rasclanya_picture` meets its contract. Assumes nothing.
-use borrow.Author.Rules.{rules}
 use Rattle.c_pictures.proofs.pictures.rasclanya_picture.Goals as goal
 
 pub returns : goal.returns

@@ -1,5 +1,4 @@
 -- `c_places::lists::rasclanya_palettes` meets its contract. Assumes nothing.
-use borrow.Author.Rules.{rules}
 use Rattle.c_places.proofs.lists.rasclanya_palettes.Goals as goal
 
 pub returns : goal.returns

@@ -1,5 +1,4 @@
 -- `c_places::lists::rasclanya_textures` meets its contract. Assumes nothing.
-use borrow.Author.Rules.{rules}
 use Rattle.c_places.proofs.lists.rasclanya_textures.Goals as goal
 
 pub returns : goal.returns

@@ -1,6 +1,5 @@
 -- `c_places::parts::rasclanya_pal_block` meets its contract. Assumes nothing.
 use mathlib.Core.Path.{refl}
-use borrow.Author.Rules.{rules}
 use Rattle.c_places.proofs.Places.{pal_block_told, pal_block_refused}
 use Rattle.c_places.proofs.parts.rasclanya_pal_block.Goals as goal
 

@@ -1,6 +1,5 @@
 -- `c_places::parts::rasclanya_texture_data1` meets its contract. Assumes nothing.
 use mathlib.Core.Path.{refl}
-use borrow.Author.Rules.{rules}
 use Rattle.c_places.proofs.Places.{data1_told, data1_refused}
 use Rattle.c_places.proofs.parts.rasclanya_texture_data1.Goals as goal
 

@@ -1,18 +1,15 @@
 -- `stream::fetch_tex::fetch_tex` meets its contract: the loop keeps what is left to count. Assumes nothing.
 -- an attempt that is short
-use Prim.Native.Nat.{◌-◌}
 use mathlib.Core.Path.{refl, sym}
 use native.Mathlib.Omega.{arith}
-use lib.ListN.{length}
 use lib.Seq.{length-take-le}
-use borrow.Author.Rules.{rules}
 use Rattle.scripts.specs.Script.{run}
 use Rattle.reading.specs.Tex.{read_tex}
 use Rattle.nitro.specs.Calls.{reading_of, reading_outcome}
 use Rattle.stream.specs.Fetch.{reading_call}
 use Rattle.laws.specs.BlockCalls.{nothing}
 use Rattle.laws.proofs.Calls.{reading_scripted}
-use Rattle.stream.proofs.Fetches.{Fetching, fetch_start, Waiting, settled, waiting, fetched}
+use Rattle.stream.proofs.Fetches.{fetch_start, Waiting, settled, waiting, fetched}
 use Rattle.laws.proofs.Prefixes.{arriving}
 use Rattle.stream.proofs.fetch_tex.fetch_tex.Goals as goal
 
@@ -30,7 +27,7 @@ returns-in-Enough c =
     fetched reading_call _ end.full refl (omega (arith, end.counted))
 
 pub overflow_add-short_answers : goal.overflow_add-short_answers
-overflow_add-short_answers c =     record { fits = omega (arith, c.loop-needed.invariant.within, c.loop-needed.invariant.below) }
+overflow_add-short_answers c = record { fits = omega (arith, c.loop-needed.invariant.within, c.loop-needed.invariant.below) }
 
 pub returns-then-needed-len : goal.returns-then-needed-len
 returns-then-needed-len c =
@@ -39,7 +36,7 @@ returns-then-needed-len c =
     c.loop-needed.short_answers
     c.in-Needs.needed = waiting reading_scripted arriving.read_tex_lem _ c.loop-needed.invariant c.read_tex-reading.ensures
     (rw c.in-Needs.is at c.reading_shortness.ensures) in
-        let end = (short-attempt).beyond (omega (arith, c.if-needed-len.true)) in
+    let end = (short-attempt).beyond (omega (arith, c.if-needed-len.true)) in
     fetched reading_call _ end.full refl (omega (arith, end.counted))
 
 pub loop-needed-preserved : goal.loop-needed-preserved

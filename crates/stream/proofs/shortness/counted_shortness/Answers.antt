@@ -1,5 +1,4 @@
 -- `stream::shortness::counted_shortness` meets its contract: by the answer's case. Assumes nothing.
-use borrow.Author.Rules.{rules}
 use Rattle.stream.proofs.shortness.counted_shortness.Goals as goal
 
 pub returns-in-Refused : goal.returns-in-Refused

@@ -1,5 +1,4 @@
 -- `stream::shortness::reading_shortness` meets its contract: by the reading's case. Assumes nothing.
-use borrow.Author.Rules.{rules}
 use Rattle.stream.proofs.shortness.reading_shortness.Goals as goal
 
 pub returns-in-Refused : goal.returns-in-Refused
