@@ -19,7 +19,6 @@
 
 #![tactic(auto)]
 
-use report::STDIN_FILENO;
 use cases::{field, fill, named};
 use cursor::part_at;
 use decode::decode_texture::decode_texture;
@@ -27,7 +26,7 @@ use decode::picture::picture;
 use errors::Counted;
 use nds::texture_params::TextureParams;
 use picture_report::written;
-use report::text;
+use report::{STDIN_FILENO, text};
 use told::{choice_of, off_of};
 
 // What the direct decoding that the case asks for answers.

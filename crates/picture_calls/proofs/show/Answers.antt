@@ -2,7 +2,6 @@
 use mathlib.Core.Path.{sym}
 use native.Mathlib.Omega.{arith}
 use lib.Seq.{length-take-le}
-use borrow.Author.Rules.{rules}
 use Rattle.picture_calls.proofs.show.Goals as goal
 
 pub slice_bounds-run-end-then-room-buffer : goal.slice_bounds-run-end-then-room-buffer
