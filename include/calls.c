@@ -8,6 +8,22 @@
 #include <string.h>
 #include <sys/mman.h>
 
+/* Each refusal has the same number under its two names. */
+#define SAME(name) _Static_assert((int)RASCLANYA_REFUSED_##name == (int)RASCLANYA_##name, #name)
+
+SAME(SHORT);
+SAME(STAMP);
+SAME(TEXTURE_DUMMY);
+SAME(TEXTURE_DATUM_SIZE);
+SAME(PALETTE_DUMMY);
+SAME(PALETTE_DATUM_SIZE);
+SAME(TEXTURE_NUMBER);
+SAME(PALETTE_NUMBER);
+SAME(NO_PALETTE);
+SAME(NO_TEXELS);
+SAME(OUTPUT);
+SAME(SHORT_DATA);
+
 static size_t checked, failed;
 
 /* Each use checks the answer of one call. */
@@ -376,42 +392,41 @@ struct word_facts {
     bool color0;
     uint8_t transform;
     uint32_t wrap_s, wrap_t, alpha;
-    size_t byte_len, byte_len2, picture_len;
+    size_t byte_len, byte_len2;
 };
 
 static const struct word_facts FACTS[] = {
-    {0x00000000, 0, 0, 0, 0, 0, 8, 8, 0, 0, 0, 0, 0, 0, 0, 0, 256},
-    {0xffffffff, 524280, 1, 1, 1, 1, 1024, 1024, 7, 1, 3, 2, 2, 1, 2097152, 0, 4194304},
-    {0x1ff0ffff, 524280, 0, 0, 0, 0, 1024, 1024, 7, 0, 0, 0, 0, 1, 2097152, 0, 4194304},
-    {0x2c010000, 0, 1, 0, 0, 0, 8, 8, 3, 1, 0, 1, 0, 1, 32, 0, 256},
-    {0x0c021234, 37280, 0, 1, 0, 0, 8, 8, 3, 0, 0, 0, 1, 0, 32, 0, 256},
-    {0x55140001, 8, 0, 0, 1, 0, 16, 32, 5, 0, 1, 2, 0, 1, 128, 64, 2048},
-    {0x96a80002, 16, 0, 0, 0, 1, 32, 256, 5, 0, 2, 0, 2, 1, 2048, 1024, 32768},
-    {0x04430100, 2048, 1, 1, 0, 0, 128, 8, 1, 0, 0, 1, 1, 2, 1024, 0, 4096},
-    {0x2b800000, 0, 0, 0, 0, 0, 8, 1024, 2, 1, 0, 0, 0, 1, 2048, 0, 32768},
-    {0x10700000, 0, 0, 0, 0, 0, 1024, 8, 4, 0, 0, 0, 0, 0, 8192, 0, 32768},
-    {0x1bd60000, 0, 0, 1, 1, 0, 256, 1024, 6, 0, 0, 2, 1, 2, 262144, 0, 1048576},
-    {0x17f00000, 0, 0, 0, 0, 0, 1024, 1024, 5, 0, 0, 0, 0, 1, 262144, 131072, 4194304},
+    {0x00000000, 0, 0, 0, 0, 0, 8, 8, 0, 0, 0, 0, 0, 0, 0, 0},
+    {0xffffffff, 524280, 1, 1, 1, 1, 1024, 1024, 7, 1, 3, 2, 2, 1, 2097152, 0},
+    {0x1ff0ffff, 524280, 0, 0, 0, 0, 1024, 1024, 7, 0, 0, 0, 0, 1, 2097152, 0},
+    {0x2c010000, 0, 1, 0, 0, 0, 8, 8, 3, 1, 0, 1, 0, 1, 32, 0},
+    {0x0c021234, 37280, 0, 1, 0, 0, 8, 8, 3, 0, 0, 0, 1, 0, 32, 0},
+    {0x55140001, 8, 0, 0, 1, 0, 16, 32, 5, 0, 1, 2, 0, 1, 128, 64},
+    {0x96a80002, 16, 0, 0, 0, 1, 32, 256, 5, 0, 2, 0, 2, 1, 2048, 1024},
+    {0x04430100, 2048, 1, 1, 0, 0, 128, 8, 1, 0, 0, 1, 1, 2, 1024, 0},
+    {0x2b800000, 0, 0, 0, 0, 0, 8, 1024, 2, 1, 0, 0, 0, 1, 2048, 0},
+    {0x10700000, 0, 0, 0, 0, 0, 1024, 8, 4, 0, 0, 0, 0, 0, 8192, 0},
+    {0x1bd60000, 0, 0, 1, 1, 0, 256, 1024, 6, 0, 0, 2, 1, 2, 262144, 0},
+    {0x17f00000, 0, 0, 0, 0, 0, 1024, 1024, 5, 0, 0, 0, 0, 1, 262144, 131072},
 };
 
 static void check_word(const struct word_facts *f)
 {
-    CHECK(rasclanya_word_offset(f->word) == f->offset);
-    CHECK(rasclanya_word_repeat_s(f->word) == f->repeat_s);
-    CHECK(rasclanya_word_repeat_t(f->word) == f->repeat_t);
-    CHECK(rasclanya_word_mirror_s(f->word) == f->mirror_s);
-    CHECK(rasclanya_word_mirror_t(f->word) == f->mirror_t);
-    CHECK(rasclanya_word_width(f->word) == f->width);
-    CHECK(rasclanya_word_height(f->word) == f->height);
-    CHECK(rasclanya_word_format(f->word) == f->format);
-    CHECK(rasclanya_word_is_color0_transparent(f->word) == f->color0);
-    CHECK(rasclanya_word_texcoord_transform_mode(f->word) == f->transform);
-    CHECK(rasclanya_word_wrap_s(f->word) == f->wrap_s);
-    CHECK(rasclanya_word_wrap_t(f->word) == f->wrap_t);
-    CHECK(rasclanya_word_alpha_type(f->word) == f->alpha);
-    CHECK(rasclanya_word_byte_len(f->word) == f->byte_len);
-    CHECK(rasclanya_word_byte_len2(f->word) == f->byte_len2);
-    CHECK(rasclanya_picture_len(f->word) == f->picture_len);
+    CHECK(rasclanya_offset(f->word) == f->offset);
+    CHECK(rasclanya_repeat_s(f->word) == f->repeat_s);
+    CHECK(rasclanya_repeat_t(f->word) == f->repeat_t);
+    CHECK(rasclanya_mirror_s(f->word) == f->mirror_s);
+    CHECK(rasclanya_mirror_t(f->word) == f->mirror_t);
+    CHECK(rasclanya_width(f->word) == f->width);
+    CHECK(rasclanya_height(f->word) == f->height);
+    CHECK(rasclanya_format(f->word) == f->format);
+    CHECK(rasclanya_is_color0_transparent(f->word) == f->color0);
+    CHECK(rasclanya_texcoord_transform_mode(f->word) == f->transform);
+    CHECK(rasclanya_wrap_s(f->word) == f->wrap_s);
+    CHECK(rasclanya_wrap_t(f->word) == f->wrap_t);
+    CHECK(rasclanya_alpha_type(f->word) == f->alpha);
+    CHECK(rasclanya_byte_len(f->word) == f->byte_len);
+    CHECK(rasclanya_byte_len2(f->word) == f->byte_len2);
 }
 
 static void check_words(void)
@@ -636,17 +651,17 @@ static void check_refused(struct slice b, uint32_t refusal, size_t needed, size_
 static void check_refusals(void)
 {
     struct slice whole = slice(sample, SAMPLE_LEN);
-    check_refused(NOTHING, RASCLANYA_REFUSED_SHORT, 60, 1);
-    check_refused(first(59, whole), RASCLANYA_REFUSED_SHORT, 60, 1);
-    check_refused(first(60, whole), RASCLANYA_REFUSED_SHORT, 208, 2);
-    check_refused(first(207, whole), RASCLANYA_REFUSED_SHORT, 208, 2);
-    check_refused(far_palette_block(), RASCLANYA_REFUSED_SHORT, 4295491575, 2);
-    check_refused(first(689, slice(block, BLOCK_LEN)), RASCLANYA_REFUSED_SHORT, 690, 11);
-    check_refused(sample_with(0, 'X'), RASCLANYA_REFUSED_STAMP, 0, 1);
-    check_refused(sample_with(60, 1), RASCLANYA_REFUSED_TEXTURE_DUMMY, 0, 2);
-    check_refused(sample_with(76, 9), RASCLANYA_REFUSED_TEXTURE_DATUM_SIZE, 0, 2);
-    check_refused(sample_with(104, 1), RASCLANYA_REFUSED_PALETTE_DUMMY, 0, 2);
-    check_refused(sample_with(120, 5), RASCLANYA_REFUSED_PALETTE_DATUM_SIZE, 0, 2);
+    check_refused(NOTHING, RASCLANYA_SHORT, 60, 1);
+    check_refused(first(59, whole), RASCLANYA_SHORT, 60, 1);
+    check_refused(first(60, whole), RASCLANYA_SHORT, 208, 2);
+    check_refused(first(207, whole), RASCLANYA_SHORT, 208, 2);
+    check_refused(far_palette_block(), RASCLANYA_SHORT, 4295491575, 2);
+    check_refused(first(689, slice(block, BLOCK_LEN)), RASCLANYA_SHORT, 690, 11);
+    check_refused(sample_with(0, 'X'), RASCLANYA_STAMP, 0, 1);
+    check_refused(sample_with(60, 1), RASCLANYA_TEXTURE_DUMMY, 0, 2);
+    check_refused(sample_with(76, 9), RASCLANYA_TEXTURE_DATUM_SIZE, 0, 2);
+    check_refused(sample_with(104, 1), RASCLANYA_PALETTE_DUMMY, 0, 2);
+    check_refused(sample_with(120, 5), RASCLANYA_PALETTE_DATUM_SIZE, 0, 2);
 }
 
 /* ---- Records and parts. */
@@ -672,13 +687,13 @@ static void check_textures(struct slice b)
         struct record r = {name_from(TEXTURE_NAME(n)), WORDS[n], KINDS[n][0], KINDS[n][1], KINDS[n][2]};
         CHECK(texture_is(b, n, 16, 0, r, 0));
         CHECK(texture_is(b, n, 20, 0, r, 0));
-        CHECK(texture_is(b, n, 15, RASCLANYA_REFUSED_OUTPUT, NO_RECORD, 0));
+        CHECK(texture_is(b, n, 15, RASCLANYA_OUTPUT, NO_RECORD, 0));
     }
-    CHECK(texture_is(b, 0, 0, RASCLANYA_REFUSED_OUTPUT, NO_RECORD, 0));
-    CHECK(texture_is(b, TEXTURES, 16, RASCLANYA_REFUSED_TEXTURE_NUMBER, NO_RECORD, 0));
-    CHECK(texture_is(b, TEXTURES, 0, RASCLANYA_REFUSED_TEXTURE_NUMBER, NO_RECORD, 0));
-    CHECK(texture_is(b, SIZE_MAX, 16, RASCLANYA_REFUSED_TEXTURE_NUMBER, NO_RECORD, 0));
-    CHECK(texture_is(b, (size_t)1 << 32, 16, RASCLANYA_REFUSED_TEXTURE_NUMBER, NO_RECORD, 0));
+    CHECK(texture_is(b, 0, 0, RASCLANYA_OUTPUT, NO_RECORD, 0));
+    CHECK(texture_is(b, TEXTURES, 16, RASCLANYA_TEXTURE_NUMBER, NO_RECORD, 0));
+    CHECK(texture_is(b, TEXTURES, 0, RASCLANYA_TEXTURE_NUMBER, NO_RECORD, 0));
+    CHECK(texture_is(b, SIZE_MAX, 16, RASCLANYA_TEXTURE_NUMBER, NO_RECORD, 0));
+    CHECK(texture_is(b, (size_t)1 << 32, 16, RASCLANYA_TEXTURE_NUMBER, NO_RECORD, 0));
 }
 
 static void check_palettes(struct slice b)
@@ -688,13 +703,13 @@ static void check_palettes(struct slice b)
         uint32_t off = n == 0 ? 8 : 40;
         CHECK(palette_is(b, n, 16, 0, name, off, 0));
         CHECK(palette_is(b, n, 20, 0, name, off, 0));
-        CHECK(palette_is(b, n, 15, RASCLANYA_REFUSED_OUTPUT, NOTHING, 0, 0));
+        CHECK(palette_is(b, n, 15, RASCLANYA_OUTPUT, NOTHING, 0, 0));
     }
-    CHECK(palette_is(b, 0, 0, RASCLANYA_REFUSED_OUTPUT, NOTHING, 0, 0));
-    CHECK(palette_is(b, PALETTES, 16, RASCLANYA_REFUSED_PALETTE_NUMBER, NOTHING, 0, 0));
-    CHECK(palette_is(b, PALETTES, 0, RASCLANYA_REFUSED_PALETTE_NUMBER, NOTHING, 0, 0));
-    CHECK(palette_is(b, SIZE_MAX, 16, RASCLANYA_REFUSED_PALETTE_NUMBER, NOTHING, 0, 0));
-    CHECK(palette_is(b, (size_t)1 << 32, 16, RASCLANYA_REFUSED_PALETTE_NUMBER, NOTHING, 0, 0));
+    CHECK(palette_is(b, 0, 0, RASCLANYA_OUTPUT, NOTHING, 0, 0));
+    CHECK(palette_is(b, PALETTES, 16, RASCLANYA_PALETTE_NUMBER, NOTHING, 0, 0));
+    CHECK(palette_is(b, PALETTES, 0, RASCLANYA_PALETTE_NUMBER, NOTHING, 0, 0));
+    CHECK(palette_is(b, SIZE_MAX, 16, RASCLANYA_PALETTE_NUMBER, NOTHING, 0, 0));
+    CHECK(palette_is(b, (size_t)1 << 32, 16, RASCLANYA_PALETTE_NUMBER, NOTHING, 0, 0));
 }
 
 /* The largest offset of a palette. */
@@ -712,12 +727,12 @@ static void check_data(struct slice b)
         CHECK(data1_is(b, n, 0, POS[n], LEN[n], 0));
         CHECK(data2_is(b, n, 0, n == 1 ? 352 : 0, n == 1 ? 8 : 0, 0));
     }
-    CHECK(data1_is(b, TEXTURES, RASCLANYA_REFUSED_TEXTURE_NUMBER, 0, 0, 0));
-    CHECK(data1_is(b, SIZE_MAX, RASCLANYA_REFUSED_TEXTURE_NUMBER, 0, 0, 0));
-    CHECK(data1_is(b, (size_t)1 << 32, RASCLANYA_REFUSED_TEXTURE_NUMBER, 0, 0, 0));
-    CHECK(data2_is(b, TEXTURES, RASCLANYA_REFUSED_TEXTURE_NUMBER, 0, 0, 0));
-    CHECK(data2_is(b, SIZE_MAX, RASCLANYA_REFUSED_TEXTURE_NUMBER, 0, 0, 0));
-    CHECK(data2_is(b, ((size_t)1 << 32) + 1, RASCLANYA_REFUSED_TEXTURE_NUMBER, 0, 0, 0));
+    CHECK(data1_is(b, TEXTURES, RASCLANYA_TEXTURE_NUMBER, 0, 0, 0));
+    CHECK(data1_is(b, SIZE_MAX, RASCLANYA_TEXTURE_NUMBER, 0, 0, 0));
+    CHECK(data1_is(b, (size_t)1 << 32, RASCLANYA_TEXTURE_NUMBER, 0, 0, 0));
+    CHECK(data2_is(b, TEXTURES, RASCLANYA_TEXTURE_NUMBER, 0, 0, 0));
+    CHECK(data2_is(b, SIZE_MAX, RASCLANYA_TEXTURE_NUMBER, 0, 0, 0));
+    CHECK(data2_is(b, ((size_t)1 << 32) + 1, RASCLANYA_TEXTURE_NUMBER, 0, 0, 0));
     CHECK(pal_block_is(b, 0, 64, 80, 0));
     CHECK(pal_block_is(sample_with(48, 0), 0, 0, 0, 0));
 }
@@ -743,10 +758,10 @@ static void check_rows(struct slice b)
         CHECK(palettes_are(b, ALL_PALETTES.len + MORE[i], 0, ALL_PALETTES, 0));
     }
     for (size_t len = 0; len < ALL_TEXTURES.len; len++) {
-        CHECK(textures_are(b, len, RASCLANYA_REFUSED_OUTPUT, NO_ROWS, 0));
+        CHECK(textures_are(b, len, RASCLANYA_OUTPUT, NO_ROWS, 0));
     }
     for (size_t len = 0; len < ALL_PALETTES.len; len++) {
-        CHECK(palettes_are(b, len, RASCLANYA_REFUSED_OUTPUT, NO_ROWS, 0));
+        CHECK(palettes_are(b, len, RASCLANYA_OUTPUT, NO_ROWS, 0));
     }
 }
 
@@ -798,15 +813,15 @@ static void check_name_texts(void)
     struct slice leaf = slice("leaf\0\0\0\0\0\0\0\0\0\0\0", 16);
     CHECK(print_safe_is(leaf, 4, 0, text("leaf")));
     CHECK(print_safe_is(leaf, 9, 0, text("leaf")));
-    CHECK(print_safe_is(leaf, 3, RASCLANYA_REFUSED_OUTPUT, NOTHING));
+    CHECK(print_safe_is(leaf, 3, RASCLANYA_OUTPUT, NOTHING));
     CHECK(display_is(leaf, 4, 0, text("leaf")));
     CHECK(display_is(leaf, 9, 0, text("leaf")));
-    CHECK(display_is(leaf, 3, RASCLANYA_REFUSED_OUTPUT, NOTHING));
+    CHECK(display_is(leaf, 3, RASCLANYA_OUTPUT, NOTHING));
     struct slice odd = slice("a\0Z\x1f 9~\x7f\x80\xbf\xc0\xff_/:\0", 16);
     CHECK(print_safe_is(odd, 15, 0, text("a_Z__9_________")));
-    CHECK(print_safe_is(odd, 14, RASCLANYA_REFUSED_OUTPUT, NOTHING));
+    CHECK(print_safe_is(odd, 14, RASCLANYA_OUTPUT, NOTHING));
     CHECK(display_is(odd, 19, 0, text("a.Z. 9~\x7f\xc2\x80\xc2\xbf\xc3\x80\xc3\xbf_/:")));
-    CHECK(display_is(odd, 18, RASCLANYA_REFUSED_OUTPUT, NOTHING));
+    CHECK(display_is(odd, 18, RASCLANYA_OUTPUT, NOTHING));
 }
 
 /* Fewer bytes than a name has count as padded with zeros, and more are ignored. */
@@ -825,16 +840,16 @@ static void check_name_lengths(void)
 static void check_name_limits(void)
 {
     CHECK(print_safe_is(NOTHING, 1, 0, text("_")));
-    CHECK(print_safe_is(NOTHING, 0, RASCLANYA_REFUSED_OUTPUT, NOTHING));
+    CHECK(print_safe_is(NOTHING, 0, RASCLANYA_OUTPUT, NOTHING));
     CHECK(display_is(NOTHING, 1, 0, NOTHING));
     CHECK(display_is(NOTHING, 0, 0, NOTHING));
     struct slice high = text("\xff\xff\xff\xff\xff\xff\xff\xff\xff\xff\xff\xff\xff\xff\xff\xff");
     struct slice shown = text("\xc3\xbf\xc3\xbf\xc3\xbf\xc3\xbf\xc3\xbf\xc3\xbf\xc3\xbf\xc3\xbf"
                               "\xc3\xbf\xc3\xbf\xc3\xbf\xc3\xbf\xc3\xbf\xc3\xbf\xc3\xbf\xc3\xbf");
     CHECK(print_safe_is(high, RASCLANYA_NAME_LEN, 0, text("________________")));
-    CHECK(print_safe_is(high, RASCLANYA_NAME_LEN - 1, RASCLANYA_REFUSED_OUTPUT, NOTHING));
+    CHECK(print_safe_is(high, RASCLANYA_NAME_LEN - 1, RASCLANYA_OUTPUT, NOTHING));
     CHECK(display_is(high, RASCLANYA_MAX_DISPLAY, 0, shown));
-    CHECK(display_is(high, RASCLANYA_MAX_DISPLAY - 1, RASCLANYA_REFUSED_OUTPUT, NOTHING));
+    CHECK(display_is(high, RASCLANYA_MAX_DISPLAY - 1, RASCLANYA_OUTPUT, NOTHING));
 }
 
 /* ---- Pictures from a block. */
@@ -843,11 +858,11 @@ static void check_picture(struct slice b, size_t n, struct chosen c, struct slic
 {
     CHECK(picture_is(b, n, c, picture.len, 0, picture, 0));
     CHECK(picture_is(b, n, c, picture.len + 9, 0, picture, 0));
-    CHECK(picture_is(b, n, c, picture.len - 1, RASCLANYA_REFUSED_OUTPUT, NOTHING, 0));
-    CHECK(picture_is(b, n, c, 0, RASCLANYA_REFUSED_OUTPUT, NOTHING, 0));
+    CHECK(picture_is(b, n, c, picture.len - 1, RASCLANYA_OUTPUT, NOTHING, 0));
+    CHECK(picture_is(b, n, c, 0, RASCLANYA_OUTPUT, NOTHING, 0));
     CHECK(fetch_picture_is(b, n, c, picture.len, 0, picture, 12, 0));
     CHECK(fetch_picture_is(b, n, c, picture.len + 9, 0, picture, 12, 0));
-    CHECK(fetch_picture_is(b, n, c, picture.len - 1, RASCLANYA_REFUSED_OUTPUT, NOTHING, 12, 0));
+    CHECK(fetch_picture_is(b, n, c, picture.len - 1, RASCLANYA_OUTPUT, NOTHING, 12, 0));
 }
 
 /* Palette 0 begins at the palette block's colour 4, palette 1 at 20. Every has_palette but 0 says that there is one. */
@@ -874,20 +889,20 @@ static void check_no_picture(struct slice b, size_t n, struct chosen c, uint32_t
 
 static void check_no_pictures(struct slice b)
 {
-    check_no_picture(b, TEXTURES, with_palette(0), RASCLANYA_REFUSED_TEXTURE_NUMBER);
-    check_no_picture(b, TEXTURES, with_palette(PALETTES), RASCLANYA_REFUSED_TEXTURE_NUMBER);
-    check_no_picture(b, SIZE_MAX, NONE, RASCLANYA_REFUSED_TEXTURE_NUMBER);
-    check_no_picture(b, (size_t)1 << 32, with_palette(0), RASCLANYA_REFUSED_TEXTURE_NUMBER);
-    check_no_picture(b, 0, with_palette(PALETTES), RASCLANYA_REFUSED_PALETTE_NUMBER);
-    check_no_picture(b, 0, with_palette(SIZE_MAX), RASCLANYA_REFUSED_PALETTE_NUMBER);
-    check_no_picture(b, 0, with_palette((size_t)1 << 32), RASCLANYA_REFUSED_PALETTE_NUMBER);
-    check_no_picture(b, 3, with_palette(PALETTES), RASCLANYA_REFUSED_PALETTE_NUMBER);
-    check_no_picture(b, 4, (struct chosen){0xffffffff, SIZE_MAX}, RASCLANYA_REFUSED_PALETTE_NUMBER);
-    check_no_picture(b, 0, NONE, RASCLANYA_REFUSED_NO_PALETTE);
-    check_no_picture(b, 1, (struct chosen){0, 1}, RASCLANYA_REFUSED_NO_PALETTE);
-    check_no_picture(b, 2, (struct chosen){0, SIZE_MAX}, RASCLANYA_REFUSED_NO_PALETTE);
-    check_no_picture(b, 3, with_palette(1), RASCLANYA_REFUSED_NO_TEXELS);
-    check_no_picture(b, 3, NONE, RASCLANYA_REFUSED_NO_TEXELS);
+    check_no_picture(b, TEXTURES, with_palette(0), RASCLANYA_TEXTURE_NUMBER);
+    check_no_picture(b, TEXTURES, with_palette(PALETTES), RASCLANYA_TEXTURE_NUMBER);
+    check_no_picture(b, SIZE_MAX, NONE, RASCLANYA_TEXTURE_NUMBER);
+    check_no_picture(b, (size_t)1 << 32, with_palette(0), RASCLANYA_TEXTURE_NUMBER);
+    check_no_picture(b, 0, with_palette(PALETTES), RASCLANYA_PALETTE_NUMBER);
+    check_no_picture(b, 0, with_palette(SIZE_MAX), RASCLANYA_PALETTE_NUMBER);
+    check_no_picture(b, 0, with_palette((size_t)1 << 32), RASCLANYA_PALETTE_NUMBER);
+    check_no_picture(b, 3, with_palette(PALETTES), RASCLANYA_PALETTE_NUMBER);
+    check_no_picture(b, 4, (struct chosen){0xffffffff, SIZE_MAX}, RASCLANYA_PALETTE_NUMBER);
+    check_no_picture(b, 0, NONE, RASCLANYA_NO_PALETTE);
+    check_no_picture(b, 1, (struct chosen){0, 1}, RASCLANYA_NO_PALETTE);
+    check_no_picture(b, 2, (struct chosen){0, SIZE_MAX}, RASCLANYA_NO_PALETTE);
+    check_no_picture(b, 3, with_palette(1), RASCLANYA_NO_TEXELS);
+    check_no_picture(b, 3, NONE, RASCLANYA_NO_TEXELS);
 }
 
 /* ---- Direct decoding. */
@@ -896,7 +911,7 @@ static struct source with_word(uint32_t word)
 {
     static uint8_t bytes[64];
     memset(bytes, 0xe4, 64);
-    return (struct source){word, slice(bytes, rasclanya_word_byte_len(word)), NOTHING, 1, 0, slice(block + 64, 80)};
+    return (struct source){word, slice(bytes, rasclanya_byte_len(word)), NOTHING, 1, 0, slice(block + 64, 80)};
 }
 
 /* The sources of the block's texture 1, in format 5, with palette 1. */
@@ -909,8 +924,8 @@ static void check_decoded(struct source s, struct slice picture)
 {
     CHECK(decode_is(s, picture.len, 0, picture));
     CHECK(decode_is(s, picture.len + 9, 0, picture));
-    CHECK(decode_is(s, picture.len - 1, RASCLANYA_REFUSED_OUTPUT, NOTHING));
-    CHECK(decode_is(s, 0, RASCLANYA_REFUSED_OUTPUT, NOTHING));
+    CHECK(decode_is(s, picture.len - 1, RASCLANYA_OUTPUT, NOTHING));
+    CHECK(decode_is(s, 0, RASCLANYA_OUTPUT, NOTHING));
 }
 
 /* Formats 2, 3, 4 and 6 with bytes E4 hex: texels 0, 1, 2, 3; 4, 14; 228; and 4 with alpha 28. */
@@ -983,37 +998,37 @@ static void check_no_palette(void)
         struct source s = with_word(format << 26);
         s.has_palette = 0;
         s.palette_off = 0xffffffff;
-        check_declined(s, RASCLANYA_REFUSED_NO_PALETTE);
+        check_declined(s, RASCLANYA_NO_PALETTE);
         s.data1 = NOTHING;
-        check_declined(s, RASCLANYA_REFUSED_NO_PALETTE);
+        check_declined(s, RASCLANYA_NO_PALETTE);
     }
 }
 
 static void check_no_texels(void)
 {
     struct source s = with_word(0xe3ffffff);
-    check_declined(s, RASCLANYA_REFUSED_NO_TEXELS);
+    check_declined(s, RASCLANYA_NO_TEXELS);
     s.has_palette = 0;
-    check_declined(s, RASCLANYA_REFUSED_NO_TEXELS);
+    check_declined(s, RASCLANYA_NO_TEXELS);
     s.word = 0;
-    check_declined(s, RASCLANYA_REFUSED_NO_TEXELS);
+    check_declined(s, RASCLANYA_NO_TEXELS);
 }
 
 static void check_short_data(void)
 {
     struct source s = compressed();
     s.data1.len--;
-    check_declined(s, RASCLANYA_REFUSED_SHORT_DATA);
+    check_declined(s, RASCLANYA_SHORT_DATA);
     s = compressed();
     s.data2.len--;
-    check_declined(s, RASCLANYA_REFUSED_SHORT_DATA);
+    check_declined(s, RASCLANYA_SHORT_DATA);
     s.data2 = NOTHING;
-    check_declined(s, RASCLANYA_REFUSED_SHORT_DATA);
+    check_declined(s, RASCLANYA_SHORT_DATA);
     s = with_word(0x04000000);
     s.data1.len--;
-    check_declined(s, RASCLANYA_REFUSED_SHORT_DATA);
+    check_declined(s, RASCLANYA_SHORT_DATA);
     s = (struct source){WORDS[4], slice(block + 432, 255), slice(block, BLOCK_LEN), 0, 0, NOTHING};
-    check_declined(s, RASCLANYA_REFUSED_SHORT_DATA);
+    check_declined(s, RASCLANYA_SHORT_DATA);
 }
 
 /* Data beyond the needed length is ignored. */
@@ -1035,9 +1050,9 @@ static void check_largest_picture(void)
         put_texel(expected + 4 * (size_t)k, k & 0x7fff, k % 2 * 31);
     }
     CHECK(decode_is(s, MAX_PICTURE, 0, slice(expected, MAX_PICTURE)));
-    CHECK(decode_is(s, MAX_PICTURE - 1, RASCLANYA_REFUSED_OUTPUT, NOTHING));
+    CHECK(decode_is(s, MAX_PICTURE - 1, RASCLANYA_OUTPUT, NOTHING));
     s.data1.len--;
-    CHECK(decode_is(s, MAX_PICTURE, RASCLANYA_REFUSED_SHORT_DATA, NOTHING));
+    CHECK(decode_is(s, MAX_PICTURE, RASCLANYA_SHORT_DATA, NOTHING));
 }
 
 /* ---- The listing. */
@@ -1051,8 +1066,8 @@ static void check_listing(struct slice input, const char *lines)
     CHECK(list_is(input, len + 9, 0, lines));
     CHECK(list_is(input, RASCLANYA_MAX_LISTING, 0, lines));
     CHECK(list_is(input, RASCLANYA_MAX_LISTING - 1, 0, lines));
-    CHECK(list_is(input, len - 1, RASCLANYA_REFUSED_OUTPUT, ""));
-    CHECK(list_is(input, 0, RASCLANYA_REFUSED_OUTPUT, ""));
+    CHECK(list_is(input, len - 1, RASCLANYA_OUTPUT, ""));
+    CHECK(list_is(input, 0, RASCLANYA_OUTPUT, ""));
 }
 
 static void check_listings(void)
@@ -1117,10 +1132,10 @@ static void check_far_palette_block(void)
     struct slice far = far_palette_block();
     put16(changed + 48, 0);
     uint8_t *bytes = long_bytes(far);
-    CHECK(read_tex_is(slice(bytes, 0xfffffffe), RASCLANYA_REFUSED_SHORT, 0, 0, 0xffffffff));
+    CHECK(read_tex_is(slice(bytes, 0xfffffffe), RASCLANYA_SHORT, 0, 0, 0xffffffff));
     CHECK(read_tex_is(slice(bytes, 0xffffffff), 0, 1, 1, 0));
     put16(bytes + 48, 1);
-    CHECK(read_tex_is(slice(bytes, LONG_LEN), RASCLANYA_REFUSED_SHORT, 0, 0, 0x100000007));
+    CHECK(read_tex_is(slice(bytes, LONG_LEN), RASCLANYA_SHORT, 0, 0, 0x100000007));
     munmap(bytes, LONG_LEN);
 }
 

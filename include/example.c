@@ -65,7 +65,7 @@ static void print_name(const uint8_t *name)
 /* The length of the picture of texture n, with palette 0 or with none, or why there is no picture. */
 static void print_picture(struct block block, size_t n, uint32_t word, uint32_t has_palette)
 {
-    size_t size = rasclanya_picture_len(word);
+    size_t size = (size_t)4 * rasclanya_width(word) * rasclanya_height(word);
     uint8_t *picture = room(NULL, size);
     size_t len, needed;
     uint32_t refusal = rasclanya_picture(block.bytes, block.len, n, has_palette, 0, picture, size, &len, &needed);
@@ -91,8 +91,8 @@ static void print_texture(struct block block, size_t n, uint32_t has_palette)
     }
     printf("texture %zu ", n);
     print_name(name);
-    printf(": format %u, %u by %u, %s %s, %s", (unsigned)rasclanya_word_format(word), (unsigned)rasclanya_word_width(word),
-           (unsigned)rasclanya_word_height(word), WRAPS[wrap_s], WRAPS[wrap_t], ALPHAS[alpha]);
+    printf(": format %u, %u by %u, %s %s, %s", (unsigned)rasclanya_format(word), (unsigned)rasclanya_width(word),
+           (unsigned)rasclanya_height(word), WRAPS[wrap_s], WRAPS[wrap_t], ALPHAS[alpha]);
     print_picture(block, n, word, has_palette);
 }
 

@@ -1,4 +1,4 @@
-/* Reading TEX0 blocks (Nintendo DS textures) and decoding their textures to RGBA pictures: the C interface of the archive librasclanya.a,
+/* Reading TEX0 blocks (Nintendo DS textures) and decoding their textures to RGBA pictures: the C interface of the archive libcapi.a,
    for x86-64 Linux. tools/archive writes the archive to target/staticlib/. What a block is, and what each number means: docs/FORMAT.md.
 
    Rules that hold for every call:
@@ -10,8 +10,8 @@
      overlap.
    - The answer is 0, or the number of the refusal. A refused call changes nothing that it is lent but *needed, and *short_answers in the
      fetching calls; a call that is not refused writes every number that it is lent for writing.
-   - *needed, where there is one, is always written: for RASCLANYA_REFUSED_SHORT the length of the block at which the call gets further,
-     and else 0.
+   - *needed, where there is one, is always written: for RASCLANYA_SHORT the length of the block at which the call gets further, and
+     else 0.
    - A call that writes to a slice leaves what lies behind the result as it was.
    - The readers of a texture word, and rasclanya_version, take no pointer and are never refused.
    - Every call ends, for all arguments that keep to these rules. No call keeps a pointer, allocates memory or has a state, so calls may be
@@ -35,19 +35,35 @@ uint32_t rasclanya_version(void);
 
 /* Why a call is refused. Where several causes hold, the comment of a call gives the order in which they are told. */
 enum {
-    RASCLANYA_REFUSED_SHORT = 1,              /* the block is too short; *needed says how long it has to be */
-    RASCLANYA_REFUSED_STAMP = 2,              /* the block does not begin with TEX0 */
-    RASCLANYA_REFUSED_TEXTURE_DUMMY = 3,      /* the texture list's dummy is not 0 */
-    RASCLANYA_REFUSED_TEXTURE_DATUM_SIZE = 4, /* the texture list's datum size is not 8 */
-    RASCLANYA_REFUSED_PALETTE_DUMMY = 5,      /* the palette list's dummy is not 0 */
-    RASCLANYA_REFUSED_PALETTE_DATUM_SIZE = 6, /* the palette list's datum size is not 4 */
-    RASCLANYA_REFUSED_TEXTURE_NUMBER = 7,     /* the texture's number is not below the count of textures */
-    RASCLANYA_REFUSED_PALETTE_NUMBER = 8,     /* the palette's number is not below the count of palettes */
-    RASCLANYA_REFUSED_NO_PALETTE = 9,         /* the texture has a format of 1 to 6, and no palette was chosen */
-    RASCLANYA_REFUSED_NO_TEXELS = 10,         /* the texture has format 0, which has no texels */
-    RASCLANYA_REFUSED_OUTPUT = 11,            /* the output is shorter than the result */
-    RASCLANYA_REFUSED_SHORT_DATA = 12,        /* the data, or the second data for format 5, are shorter than the word says */
-    RASCLANYA_REFUSED_INPUT = 13              /* the input of a listing is too long: in its text alone, no call answers with it */
+    RASCLANYA_SHORT = 1,              /* the block is too short; *needed says how long it has to be */
+    RASCLANYA_STAMP = 2,              /* the block does not begin with TEX0 */
+    RASCLANYA_TEXTURE_DUMMY = 3,      /* the texture list's dummy is not 0 */
+    RASCLANYA_TEXTURE_DATUM_SIZE = 4, /* the texture list's datum size is not 8 */
+    RASCLANYA_PALETTE_DUMMY = 5,      /* the palette list's dummy is not 0 */
+    RASCLANYA_PALETTE_DATUM_SIZE = 6, /* the palette list's datum size is not 4 */
+    RASCLANYA_TEXTURE_NUMBER = 7,     /* the texture's number is not below the count of textures */
+    RASCLANYA_PALETTE_NUMBER = 8,     /* the palette's number is not below the count of palettes */
+    RASCLANYA_NO_PALETTE = 9,         /* the texture has a format of 1 to 6, and no palette was chosen */
+    RASCLANYA_NO_TEXELS = 10,         /* the texture has format 0, which has no texels */
+    RASCLANYA_OUTPUT = 11,            /* the output is shorter than the result */
+    RASCLANYA_SHORT_DATA = 12         /* the data, or the second data for format 5, are shorter than the word says */
+};
+
+/* The same refusals under names that say what they are, and one that no call answers with: it stands in the text of a listing alone. */
+enum {
+    RASCLANYA_REFUSED_SHORT = 1,
+    RASCLANYA_REFUSED_STAMP = 2,
+    RASCLANYA_REFUSED_TEXTURE_DUMMY = 3,
+    RASCLANYA_REFUSED_TEXTURE_DATUM_SIZE = 4,
+    RASCLANYA_REFUSED_PALETTE_DUMMY = 5,
+    RASCLANYA_REFUSED_PALETTE_DATUM_SIZE = 6,
+    RASCLANYA_REFUSED_TEXTURE_NUMBER = 7,
+    RASCLANYA_REFUSED_PALETTE_NUMBER = 8,
+    RASCLANYA_REFUSED_NO_PALETTE = 9,
+    RASCLANYA_REFUSED_NO_TEXELS = 10,
+    RASCLANYA_REFUSED_OUTPUT = 11,
+    RASCLANYA_REFUSED_SHORT_DATA = 12,
+    RASCLANYA_REFUSED_INPUT = 13 /* the input of a listing is too long */
 };
 
 /* A refusal in words, as a text that stays: of 0 "not refused", and of any other number that no refusal has "no refusal has this number". */
@@ -110,43 +126,39 @@ enum {
 /* ---- The texture word: a texture's size, format and addressing in 32 bits. */
 
 /* Where the texture's data begin, in bytes, from the start of the data of all textures: a multiple of 8. */
-uint32_t rasclanya_word_offset(uint32_t word);
+uint32_t rasclanya_offset(uint32_t word);
 
-/* The repeat bits and the mirror bits, in S and in T. rasclanya_word_wrap_s and rasclanya_word_wrap_t say what they come to. */
-bool rasclanya_word_repeat_s(uint32_t word);
-bool rasclanya_word_repeat_t(uint32_t word);
-bool rasclanya_word_mirror_s(uint32_t word);
-bool rasclanya_word_mirror_t(uint32_t word);
+/* The repeat bits and the mirror bits, in S and in T. rasclanya_wrap_s and rasclanya_wrap_t say what they come to. */
+bool rasclanya_repeat_s(uint32_t word);
+bool rasclanya_repeat_t(uint32_t word);
+bool rasclanya_mirror_s(uint32_t word);
+bool rasclanya_mirror_t(uint32_t word);
 
-/* The size in texels: 8, 16, 32, 64, 128, 256, 512 or 1024. */
-uint32_t rasclanya_word_width(uint32_t word);
-uint32_t rasclanya_word_height(uint32_t word);
+/* The size in texels: 8, 16, 32, 64, 128, 256, 512 or 1024. A picture has 4 * width * height bytes, at most 4,194,304. */
+uint32_t rasclanya_width(uint32_t word);
+uint32_t rasclanya_height(uint32_t word);
 
 /* The format, 0 to 7. */
-uint8_t rasclanya_word_format(uint32_t word);
+uint8_t rasclanya_format(uint32_t word);
 
 /* Whether colour 0 is clear, in formats 2 to 4. */
-bool rasclanya_word_is_color0_transparent(uint32_t word);
+bool rasclanya_is_color0_transparent(uint32_t word);
 
 /* The transform mode of texture coordinates, 0 to 3. */
-uint8_t rasclanya_word_texcoord_transform_mode(uint32_t word);
+uint8_t rasclanya_texcoord_transform_mode(uint32_t word);
 
 /* RASCLANYA_MIRROR where the mirror bit is set, else RASCLANYA_REPEAT where the repeat bit is set, else RASCLANYA_CLAMP. */
-uint32_t rasclanya_word_wrap_s(uint32_t word);
-uint32_t rasclanya_word_wrap_t(uint32_t word);
+uint32_t rasclanya_wrap_s(uint32_t word);
+uint32_t rasclanya_wrap_t(uint32_t word);
 
 /* RASCLANYA_OPAQUE, RASCLANYA_TRANSPARENT or RASCLANYA_TRANSLUCENT, by the format and, in formats 2 to 4, by whether colour 0 is clear. */
-uint32_t rasclanya_word_alpha_type(uint32_t word);
+uint32_t rasclanya_alpha_type(uint32_t word);
 
 /* The length of the texture's data, of the first data for format 5, in bytes: 0 for format 0. */
-size_t rasclanya_word_byte_len(uint32_t word);
+size_t rasclanya_byte_len(uint32_t word);
 
 /* The length of the second data, in bytes: half that of the first for format 5, and 0 for the others. */
-size_t rasclanya_word_byte_len2(uint32_t word);
-
-/* The length of the texture's picture, in bytes: 4 * width * height, at most 4,194,304. A texture of format 0, which has no picture, has this
-   number too. */
-size_t rasclanya_picture_len(uint32_t word);
+size_t rasclanya_byte_len2(uint32_t word);
 
 /* ---- Blocks. Each of these calls reads the block, which need not be well-formed, and may be only the first bytes of one that is still
    arriving: a refusal of the reading is 1 to 6, and the first in the order of reading is told. That order is: the header's 60 bytes (1),
@@ -205,8 +217,8 @@ uint32_t rasclanya_print_safe(const uint8_t *name, size_t name_len, uint8_t *out
    Refusals: 11. */
 uint32_t rasclanya_display(const uint8_t *name, size_t name_len, uint8_t *out, size_t out_len, size_t *len);
 
-/* ---- Pictures: by rows from the top left, for each texel a byte of red, green, blue and alpha. *len is the picture's length, that of
-   rasclanya_picture_len. has_palette is RASCLANYA_WITHOUT_PALETTE or RASCLANYA_WITH_PALETTE. */
+/* ---- Pictures: by rows from the top left, for each texel a byte of red, green, blue and alpha. *len is the picture's length,
+   4 * width * height. has_palette is RASCLANYA_WITHOUT_PALETTE or RASCLANYA_WITH_PALETTE. */
 
 /* Decodes a texture whose data need not stand in a block: its word, its data, its second data (for format 5 only), and the palette at
    palette_off of the palette block. Data beyond the length that the word says are ignored. A colour that does not lie wholly inside the
