@@ -1,4 +1,4 @@
-//! Links the static library `librasclanya.a`: from the directory that the variable RASCLANYA_LIB_DIR names, as it is there, or else from the
+//! Links the static library `libcapi.a`: from the directory that the variable RASCLANYA_LIB_DIR names, as it is there, or else from the
 //! repository's `target/staticlib`, to which `tools/archive` writes it where it is missing or older than what it is made from.
 
 use std::env;
@@ -10,7 +10,7 @@ use std::process::{exit, Command};
 use std::time::SystemTime;
 
 const DIR_VARIABLE: &str = "RASCLANYA_LIB_DIR";
-const ARCHIVE: &str = "librasclanya.a";
+const ARCHIVE: &str = "libcapi.a";
 
 /// Ends the build with a message.
 fn stop(message: impl Display) -> ! {
@@ -30,10 +30,13 @@ fn repository() -> PathBuf {
     }
 }
 
-/// The Rattle crates that the archive is made from, by the lines `crate: what it uses` of crates.txt: those with the calls, which are named
-/// `c_..`, and all that they use.
+/// The Rattle crates that the archive is made from, by the lines `crate: what it uses` of crates.txt, where a word may stand behind the crate:
+/// those with the calls, which are named `c_..`, and all that they use.
 fn archive_crates(table: &str) -> Vec<&str> {
-    let lines = || table.lines().filter_map(|line| line.split_once(':'));
+    let lines = || {
+        let lines = table.lines().filter_map(|line| line.split_once(':'));
+        lines.filter_map(|(name, used)| Some((name.split_whitespace().next()?, used)))
+    };
     let mut names: Vec<&str> = lines()
         .map(|(name, _)| name)
         .filter(|name| name.starts_with("c_"))
@@ -63,17 +66,24 @@ fn changed(path: &Path) -> io::Result<SystemTime> {
     Ok(last)
 }
 
-/// When anything that the archive is made from was last changed.
-fn sources_changed(root: &Path) -> io::Result<SystemTime> {
+/// What the archive is made from: what a proof leaves beside it in a crate's folder is no part of that.
+fn sources(root: &Path) -> io::Result<Vec<PathBuf>> {
     let table = root.join("crates.txt");
-    let mut last = changed(&table)?.max(changed(&root.join("tools/archive"))?);
-    for name in archive_crates(&fs::read_to_string(table)?) {
-        for part in ["src", "specs", "proofs"] {
-            let part = root.join("crates").join(name).join(part);
-            if part.exists() {
-                last = last.max(changed(&part)?);
-            }
-        }
+    let text = fs::read_to_string(&table)?;
+    let parts = archive_crates(&text).into_iter().flat_map(|name| {
+        let home = root.join("crates").join(name);
+        ["src", "specs", "proofs"].map(|part| home.join(part))
+    });
+    let mut sources = vec![table, root.join("tools/archive")];
+    sources.extend(parts.filter(|part| part.exists()));
+    Ok(sources)
+}
+
+/// When the last of these was changed.
+fn last_changed(sources: &[PathBuf]) -> io::Result<SystemTime> {
+    let mut last = SystemTime::UNIX_EPOCH;
+    for source in sources {
+        last = last.max(changed(source)?);
     }
     Ok(last)
 }
@@ -94,11 +104,12 @@ fn make_archive(root: &Path, archive: &Path, date: SystemTime) -> io::Result<()>
 /// The repository's directory of archives, with an archive that is made from what the repository has.
 fn made_dir() -> PathBuf {
     let root = repository();
-    for source in ["crates", "crates.txt", "tools/archive"] {
-        println!("cargo:rerun-if-changed={}", root.join(source).display());
-    }
-    let date = sources_changed(&root)
+    let (sources, date) = sources(&root)
+        .and_then(|sources| last_changed(&sources).map(|date| (sources, date)))
         .unwrap_or_else(|error| stop(format_args!("the archive's sources: {error}")));
+    for source in &sources {
+        println!("cargo:rerun-if-changed={}", source.display());
+    }
     let dir = root.join("target/staticlib");
     let archive = dir.join(ARCHIVE);
     if !changed(&archive).is_ok_and(|made| made >= date) {
@@ -120,5 +131,5 @@ fn main() {
     }
     println!("cargo:rerun-if-changed={}", archive.display());
     println!("cargo:rustc-link-search=native={}", dir.display());
-    println!("cargo:rustc-link-lib=static=rasclanya");
+    println!("cargo:rustc-link-lib=static=capi");
 }

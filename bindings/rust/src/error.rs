@@ -96,7 +96,7 @@ impl Error {
             11 => Error::Output,
             12 => Error::ShortData,
             _ => {
-                unreachable!("librasclanya.a answered with {number}, which is no refusal's number")
+                unreachable!("libcapi.a answered with {number}, which is no refusal's number")
             }
         }
     }

@@ -4,22 +4,21 @@
 extern "C" {
     pub fn rasclanya_version() -> u32;
 
-    pub fn rasclanya_word_offset(word: u32) -> u32;
-    pub fn rasclanya_word_repeat_s(word: u32) -> bool;
-    pub fn rasclanya_word_repeat_t(word: u32) -> bool;
-    pub fn rasclanya_word_mirror_s(word: u32) -> bool;
-    pub fn rasclanya_word_mirror_t(word: u32) -> bool;
-    pub fn rasclanya_word_width(word: u32) -> u32;
-    pub fn rasclanya_word_height(word: u32) -> u32;
-    pub fn rasclanya_word_format(word: u32) -> u8;
-    pub fn rasclanya_word_is_color0_transparent(word: u32) -> bool;
-    pub fn rasclanya_word_texcoord_transform_mode(word: u32) -> u8;
-    pub fn rasclanya_word_wrap_s(word: u32) -> u32;
-    pub fn rasclanya_word_wrap_t(word: u32) -> u32;
-    pub fn rasclanya_word_alpha_type(word: u32) -> u32;
-    pub fn rasclanya_word_byte_len(word: u32) -> usize;
-    pub fn rasclanya_word_byte_len2(word: u32) -> usize;
-    pub fn rasclanya_picture_len(word: u32) -> usize;
+    pub fn rasclanya_offset(word: u32) -> u32;
+    pub fn rasclanya_repeat_s(word: u32) -> bool;
+    pub fn rasclanya_repeat_t(word: u32) -> bool;
+    pub fn rasclanya_mirror_s(word: u32) -> bool;
+    pub fn rasclanya_mirror_t(word: u32) -> bool;
+    pub fn rasclanya_width(word: u32) -> u32;
+    pub fn rasclanya_height(word: u32) -> u32;
+    pub fn rasclanya_format(word: u32) -> u8;
+    pub fn rasclanya_is_color0_transparent(word: u32) -> bool;
+    pub fn rasclanya_texcoord_transform_mode(word: u32) -> u8;
+    pub fn rasclanya_wrap_s(word: u32) -> u32;
+    pub fn rasclanya_wrap_t(word: u32) -> u32;
+    pub fn rasclanya_alpha_type(word: u32) -> u32;
+    pub fn rasclanya_byte_len(word: u32) -> usize;
+    pub fn rasclanya_byte_len2(word: u32) -> usize;
 
     pub fn rasclanya_read_tex(
         block: *const u8,

@@ -33,5 +33,5 @@ pub(crate) unsafe fn write_text(
 
 /// A text that the archive wrote, as a string.
 pub(crate) fn text_of(bytes: &[u8]) -> &str {
-    core::str::from_utf8(bytes).expect("librasclanya.a writes texts in UTF-8")
+    core::str::from_utf8(bytes).expect("libcapi.a writes texts in UTF-8")
 }

@@ -41,34 +41,32 @@ type Facts = (
     [u32; 3],
     usize,
     usize,
-    usize,
 );
 
 fn facts(word: u32) -> Facts {
     unsafe {
         let bits = [
-            rasclanya_word_repeat_s(word),
-            rasclanya_word_repeat_t(word),
-            rasclanya_word_mirror_s(word),
-            rasclanya_word_mirror_t(word),
+            rasclanya_repeat_s(word),
+            rasclanya_repeat_t(word),
+            rasclanya_mirror_s(word),
+            rasclanya_mirror_t(word),
         ];
         let kinds = [
-            rasclanya_word_wrap_s(word),
-            rasclanya_word_wrap_t(word),
-            rasclanya_word_alpha_type(word),
+            rasclanya_wrap_s(word),
+            rasclanya_wrap_t(word),
+            rasclanya_alpha_type(word),
         ];
         (
-            rasclanya_word_offset(word),
+            rasclanya_offset(word),
             bits,
-            rasclanya_word_width(word),
-            rasclanya_word_height(word),
-            rasclanya_word_format(word),
-            rasclanya_word_is_color0_transparent(word),
-            rasclanya_word_texcoord_transform_mode(word),
+            rasclanya_width(word),
+            rasclanya_height(word),
+            rasclanya_format(word),
+            rasclanya_is_color0_transparent(word),
+            rasclanya_texcoord_transform_mode(word),
             kinds,
-            rasclanya_word_byte_len(word),
-            rasclanya_word_byte_len2(word),
-            rasclanya_picture_len(word),
+            rasclanya_byte_len(word),
+            rasclanya_byte_len2(word),
         )
     }
 }
@@ -81,66 +79,30 @@ fn version() {
 #[test]
 fn word_readers() {
     let (t, f) = (true, false);
-    assert_eq!(facts(0), (0, [f; 4], 8, 8, 0, f, 0, [0, 0, 0], 0, 0, 256));
+    assert_eq!(facts(0), (0, [f; 4], 8, 8, 0, f, 0, [0, 0, 0], 0, 0));
     assert_eq!(
         facts(u32::MAX),
-        (
-            524280,
-            [t; 4],
-            1024,
-            1024,
-            7,
-            t,
-            3,
-            [2, 2, 1],
-            2097152,
-            0,
-            4194304
-        )
+        (524280, [t; 4], 1024, 1024, 7, t, 3, [2, 2, 1], 2097152, 0)
     );
     assert_eq!(
         facts(0x2c010000),
-        (0, [t, f, f, f], 8, 8, 3, t, 0, [1, 0, 1], 32, 0, 256)
+        (0, [t, f, f, f], 8, 8, 3, t, 0, [1, 0, 1], 32, 0)
     );
     assert_eq!(
         facts(0x0c021234),
-        (37280, [f, t, f, f], 8, 8, 3, f, 0, [0, 1, 0], 32, 0, 256)
+        (37280, [f, t, f, f], 8, 8, 3, f, 0, [0, 1, 0], 32, 0)
     );
     assert_eq!(
         facts(0x55140001),
-        (8, [f, f, t, f], 16, 32, 5, f, 1, [2, 0, 1], 128, 64, 2048)
+        (8, [f, f, t, f], 16, 32, 5, f, 1, [2, 0, 1], 128, 64)
     );
     assert_eq!(
         facts(0x96a80002),
-        (
-            16,
-            [f, f, f, t],
-            32,
-            256,
-            5,
-            f,
-            2,
-            [0, 2, 1],
-            2048,
-            1024,
-            32768
-        )
+        (16, [f, f, f, t], 32, 256, 5, f, 2, [0, 2, 1], 2048, 1024)
     );
     assert_eq!(
         facts(0x04430100),
-        (
-            2048,
-            [t, t, f, f],
-            128,
-            8,
-            1,
-            f,
-            0,
-            [1, 1, 2],
-            1024,
-            0,
-            4096
-        )
+        (2048, [t, t, f, f], 128, 8, 1, f, 0, [1, 1, 2], 1024, 0)
     );
 }
 

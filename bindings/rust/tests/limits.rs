@@ -40,6 +40,36 @@ fn refuses(error: Error, len: usize, call: impl Fn(&mut [u8]) -> Result<usize, E
     assert_eq!(lent(len, &call), (Err(error), filled(len, &[])));
 }
 
+const ERRORS: [Error; 12] = [
+    Error::Short { needed: 60 },
+    Error::Stamp,
+    Error::TextureDummy,
+    Error::TextureDatumSize,
+    Error::PaletteDummy,
+    Error::PaletteDatumSize,
+    Error::TextureNumber,
+    Error::PaletteNumber,
+    Error::NoPalette,
+    Error::NoTexels,
+    Error::Output,
+    Error::ShortData,
+];
+
+#[test]
+fn errors() {
+    assert_eq!(
+        ERRORS.map(|e| e.number()),
+        std::array::from_fn(|i| i as u32 + 1)
+    );
+    assert_eq!(
+        ERRORS.map(|e| e.needed()),
+        [60, 0, 0, 0, 0, 0, 0, 0, 0, 0, 0, 0]
+    );
+    let texts: std::collections::HashSet<String> = ERRORS.iter().map(Error::to_string).collect();
+    assert_eq!(texts.len(), 12);
+    assert!(texts.contains("the block is too short: 60 bytes are needed"));
+}
+
 /// The crate is of the archive's version.
 #[test]
 fn versions() {
@@ -403,6 +433,8 @@ fn names() {
     );
     named(*b"abcdefghijklmnop", "abcdefghijklmnop", "abcdefghijklmnop");
     assert_eq!(Name::default(), Name([0; NAME_LEN]));
+    #[cfg(feature = "std")]
+    assert_eq!(Name::default().safe(), "_");
     assert_eq!(
         format!("{:>6}|", Name(*b"leaf\0\0\0\0\0\0\0\0\0\0\0\0")),
         "  leaf|"
@@ -587,8 +619,8 @@ fn listings() {
     listed(&SAMPLE[..207], "refused 1 208\n");
     listed(&far_palette_block(), "refused 1 4295491575\n");
     listed(&sample_with(120, &[5]), "refused 6 0\n");
-    listed(&[0; MAX_INPUT], "refused 2 0\n");
-    listed(&[0; MAX_INPUT + 1], "refused 13 0\n");
+    listed(&[0; 65536], "refused 2 0\n");
+    listed(&[0; 65537], "refused 13 0\n");
 }
 
 /// A length of which only the low 32 bits are 3, which is too short for every call.
