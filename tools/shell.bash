@@ -13,12 +13,14 @@ readable() {
     [ -f "$1" ] && [ -r "$1" ] || stop "$1: no file that can be read"
 }
 
-# ready PROGRAM: proves and links a program, unless it is newer than its sources.
+# ready PROGRAM: proves and links a program, unless it is newer than its sources, and leaves its path in program. `rt run` also runs it: given
+# nothing, it writes a line or two, which nobody asked for.
 ready() {
-    local program=$root/target/bin/$1
-    if ! [ -x "$program" ] || [ -n "$(find "$root/crates.txt" "$root/crates" -newer "$program" -print -quit)" ]; then
+    local home=$root/crates/$1 said
+    program=$home/out/$1
+    if ! [ -x "$program" ] || [ -n "$(find "$root/crates.txt" "$root/crates" -name out -prune -o -type f -newer "$program" -print -quit)" ]; then
         printf '%s: proving %s, which takes some minutes the first time\n' "$name" "$1" >&2
-        (cd "$root" && set -o pipefail && rt check "$1" | grep '^rt: ') >&2 || stop "$1 was not proved"
+        said=$(cd "$home" && rt run </dev/null 2>&1 >/dev/null) || stop "$1 was not proved: $said"
         touch "$program"
     fi
 }
