@@ -30,18 +30,14 @@ def put_on(home, pairs):
 
 
 def repository(crate, pairs):
-    """A new directory with this repository's crates as links, but for one that is a copy with an edit; with no crate, links alone."""
+    """A new directory with a copy of this repository's crates, of which one has an edit; with no crate, none has. `rt` takes no crate by a link."""
     scratch = tempfile.mkdtemp(prefix="edited_")
     try:
         shutil.copy(os.path.join(ROOT, "crates.txt"), scratch)
-        os.mkdir(os.path.join(scratch, "crates"))
-        for name in os.listdir(os.path.join(ROOT, "crates")):
-            source, target = os.path.join(ROOT, "crates", name), os.path.join(scratch, "crates", name)
-            if name == crate:
-                shutil.copytree(source, target, ignore=shutil.ignore_patterns("must-fail", "wrong"))
-                put_on(target, pairs)
-            else:
-                os.symlink(source, target)
+        crates = os.path.join(scratch, "crates")
+        shutil.copytree(os.path.join(ROOT, "crates"), crates, ignore=shutil.ignore_patterns("out", "must-fail", "wrong"))
+        if crate:
+            put_on(os.path.join(crates, crate), pairs)
     except BaseException:
         shutil.rmtree(scratch)
         raise
