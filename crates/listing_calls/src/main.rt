@@ -16,11 +16,10 @@
 
 #![tactic(auto)]
 
-use report::STDIN_FILENO;
 use cases::{field, fill, named};
 use cursor::part_at;
 use listing_report::listed_to;
-use report::text;
+use report::{STDIN_FILENO, text};
 
 // The array comes by value, so that each case gets one that is as it was filled.
 fn show(input: &[u8], case: &[u8], mut out: [u8; 22400]) {

@@ -28,11 +28,10 @@
 
 #![tactic(auto)]
 
-use report::STDIN_FILENO;
 use cases::{field, fill, named};
 use cursor::part_at;
 use fetch_report::fetching;
-use report::text;
+use report::{STDIN_FILENO, text};
 use stream_report::{Request, prefixes};
 use told::choice_of;
 

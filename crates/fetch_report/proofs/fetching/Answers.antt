@@ -2,7 +2,6 @@
 use mathlib.Core.Path.{sym}
 use native.Mathlib.Omega.{arith}
 use lib.Seq.{length-take-le}
-use borrow.Author.Rules.{rules}
 use Rattle.fetch_report.proofs.fetching.Goals as goal
 
 pub slice_bounds-fetched_picture-end-then-len-out : goal.slice_bounds-fetched_picture-end-then-len-out

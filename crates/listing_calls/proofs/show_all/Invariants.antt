@@ -1,6 +1,5 @@
 -- `listing_calls::show_all` meets its contract: the number of cases has 32 bits, so a case's position fits. Assumes nothing.
 use Prim.Native.Nat.{◌-◌, ◌≤◌, ◌<◌}
-use borrow.Author.Rules.{rules}
 use Rattle.listing_calls.proofs.show_all.Given as goal
 
 abbrev pub invariant-loop-i : goal.invariant-loop-i

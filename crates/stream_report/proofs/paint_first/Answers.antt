@@ -2,7 +2,6 @@
 use mathlib.Core.Path.{sym}
 use native.Mathlib.Omega.{arith}
 use lib.Seq.{length-take-le}
-use borrow.Author.Rules.{rules}
 use Rattle.stream_report.proofs.paint_first.Goals as goal
 
 pub slice_bounds-paint-end-then-len-out : goal.slice_bounds-paint-end-then-len-out
