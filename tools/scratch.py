@@ -35,7 +35,7 @@ def repository(crate, pairs):
     try:
         shutil.copy(os.path.join(ROOT, "crates.txt"), scratch)
         crates = os.path.join(scratch, "crates")
-        shutil.copytree(os.path.join(ROOT, "crates"), crates, ignore=shutil.ignore_patterns("out", "must-fail", "wrong"))
+        shutil.copytree(os.path.join(ROOT, "crates"), crates, ignore=shutil.ignore_patterns("out", "must-fail", "wrong", "harmless"))
         if crate:
             put_on(os.path.join(crates, crate), pairs)
     except BaseException:
