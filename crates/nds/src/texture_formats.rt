@@ -110,6 +110,7 @@ impl TextureParams {
     }
 
     // The length of a block-compressed texture's second data, in bytes. Other textures have none.
+    #[tactic(auto, unfolding(crate::specs::Formats::second_length))]
     pub fn byte_len2(self) -> usize
         ensures { result ≡ Formats.second_length self.0 }
     {

@@ -5,6 +5,7 @@
 ghost use Rattle.std.specs.Prelude.{◌≡◌};
 ghost use Rattle.util.specs.Bits.{bit_field};
 
+#[tactic(auto, using(crate::proofs::Fields::shift_mask, crate::proofs::Fields::no_bits, crate::proofs::Fields::past_width))]
 pub fn bits_u8(x: u8, lo: u32, hi: u32) -> u8
     ensures { result ≡ bit_field 8 x lo hi }
 {
@@ -16,6 +17,7 @@ pub fn bits_u8(x: u8, lo: u32, hi: u32) -> u8
     0
 }
 
+#[tactic(auto, using(crate::proofs::Fields::shift_mask, crate::proofs::Fields::no_bits, crate::proofs::Fields::past_width))]
 pub fn bits_u16(x: u16, lo: u32, hi: u32) -> u16
     ensures { result ≡ bit_field 16 x lo hi }
 {
@@ -27,6 +29,7 @@ pub fn bits_u16(x: u16, lo: u32, hi: u32) -> u16
     0
 }
 
+#[tactic(auto, using(crate::proofs::Fields::shift_mask, crate::proofs::Fields::no_bits, crate::proofs::Fields::past_width))]
 pub fn bits_u32(x: u32, lo: u32, hi: u32) -> u32
     ensures { result ≡ bit_field 32 x lo hi }
 {

@@ -56,7 +56,7 @@ returns-then-size_of_datum-size c =
           at (take_within _ _ _ (rw c.in-Done.is at c.take.ensures)),
     ) in
     fault_outcome _
-    (size_bad _ _ _ _ (there) (sym c.view_u8-dummy.ensures ∙ c.if-dummy-ne0.false)
+    (size_bad _ _ _ _ (there) (omega (arith, c.view_u8-dummy.ensures))
     (λ e. c.if-size_of_datum-size.true (c.view_u16-size_of_datum.ensures ∙ (e ∙ sym c.datum_size-size.ensures))))
 
 pub returns-in-Refused : goal.returns-in-Refused
