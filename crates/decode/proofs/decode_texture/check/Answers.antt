@@ -33,7 +33,7 @@ pub returns-then-no_room : goal.returns-then-no_room
 returns-then-no_room c =
     let chosen : let a = c.args in lacks_palette a.params.0 a.palette ≡ false = sym c.lacks_palette-no_palette.ensures ∙ c.if-no_palette.false in
     let some : format c.args.params.0 ≡ 0 → ⊥ = λ e. c.if-format-eq0.false (c.format-format.ensures ∙ e) in
-    let there : let a = c.args in lacks_data a.params.0 a.len1 a.len2 ≡ false = sym c.lacks_data-no_data.ensures ∙ c.if-no_data.false in
+    let there : let a = c.args in lacks_data a.params.0 a.len1 a.len2 ≡ false = cc in
     let a = c.args in
     no_room a.params.0 a.len1 a.len2 a.palette a.room
     (chosen) (some) (there) (sym c.lacks_room-no_room.ensures ∙ c.if-no_room.true)
