@@ -71,7 +71,7 @@ impl<'a> Entry<'a, PALETTE_ROW> for Palette {
 #[derive(Clone)]
 pub struct Entries<'a, T, const N: usize> {
     block: &'a [u8],
-    rows: [MaybeUninit<[usize; N]>; MAX_COUNT],
+    rows: Rows<N>,
     /// How many rows the archive has written, from the first.
     count: usize,
     /// The numbers of the entries that are still to come.
@@ -90,12 +90,60 @@ pub type Palettes<'a> = Entries<'a, Palette, PALETTE_ROW>;
 type RowsCall =
     unsafe extern "C" fn(*const u8, usize, *mut usize, usize, *mut usize, *mut usize) -> u32;
 
+/// Room for the rows of the longest list.
+type Rows<const N: usize> = [MaybeUninit<[usize; N]>; MAX_COUNT];
+
+/// Writes the rows of a list, and returns how many there are, from the first.
+///
+/// # Safety
+///
+/// The function keeps to the header's rules for its slices and its numbers, and its rows have `N` numbers.
+unsafe fn read<const N: usize>(
+    call: RowsCall,
+    block: &[u8],
+    rows: &mut Rows<N>,
+) -> Result<usize, Error> {
+    let (mut len, mut needed) = (0, 0);
+    // SAFETY: the block is a slice, the rows are memory that the function writes to and does not read, and each number is a variable of its
+    // own.
+    let number = unsafe {
+        call(
+            block.as_ptr(),
+            block.len(),
+            rows.as_mut_ptr().cast(),
+            N * MAX_COUNT,
+            &mut len,
+            &mut needed,
+        )
+    };
+    done(number, needed)?;
+    Ok(len / N)
+}
+
+/// The entries of a list. The rows stay where they are written, so that a short list costs no copy of the room for the longest.
+///
+/// # Safety
+///
+/// As of [`read`].
+#[cfg(feature = "std")]
+unsafe fn collected<'a, T: Entry<'a, N>, const N: usize>(
+    call: RowsCall,
+    block: &'a [u8],
+) -> Result<Vec<T>, Error> {
+    let mut rows = [const { MaybeUninit::uninit() }; MAX_COUNT];
+    // SAFETY: the caller vouches for the function.
+    let count = unsafe { read(call, block, &mut rows) }?;
+    // SAFETY: the first `count` rows are written.
+    let entry = |row: &MaybeUninit<[usize; N]>| T::from_row(block, unsafe { row.assume_init() });
+    Ok(rows[..count].iter().map(entry).collect())
+}
+
 impl<'a, T: Entry<'a, N>, const N: usize> Entries<'a, T, N> {
     /// The entries of a list.
     ///
     /// # Safety
     ///
-    /// The function keeps to the header's rules for its slices and its numbers, and its rows have `N` numbers.
+    /// As of [`read`].
     unsafe fn read(call: RowsCall, block: &'a [u8]) -> Result<Self, Error> {
         let mut entries = Entries {
             block,
@@ -104,21 +152,8 @@ impl<'a, T: Entry<'a, N>, const N: usize> Entries<'a, T, N> {
             left: 0..0,
             entry: PhantomData,
         };
-        let (mut len, mut needed) = (0, 0);
-        // SAFETY: the block is a slice, the rows are memory that the function writes to and does not read, and each number is a variable of
-        // its own.
-        let number = unsafe {
-            call(
-                block.as_ptr(),
-                block.len(),
-                entries.rows.as_mut_ptr().cast(),
-                N * MAX_COUNT,
-                &mut len,
-                &mut needed,
-            )
-        };
-        done(number, needed)?;
-        entries.count = len / N;
+        // SAFETY: the caller vouches for the function.
+        entries.count = unsafe { read(call, block, &mut entries.rows) }?;
         entries.left = 0..entries.count;
         Ok(entries)
     }
@@ -184,11 +219,13 @@ pub fn palette_iter(block: &[u8]) -> Result<Palettes<'_>, Error> {
 /// The textures that [`texture_iter`] gives. Needs the feature `std`.
 #[cfg(feature = "std")]
 pub fn textures(block: &[u8]) -> Result<Vec<TextureParts<'_>>, Error> {
-    texture_iter(block).map(Textures::collect)
+    // SAFETY: the function is one of the archive's rows, and a texture's has `TEXTURE_ROW` numbers.
+    unsafe { collected(ffi::rasclanya_textures, block) }
 }
 
 /// The palettes that [`palette_iter`] gives. Needs the feature `std`.
 #[cfg(feature = "std")]
 pub fn palettes(block: &[u8]) -> Result<Vec<Palette>, Error> {
-    palette_iter(block).map(Palettes::collect)
+    // SAFETY: the function is one of the archive's rows, and a palette's has `PALETTE_ROW` numbers.
+    unsafe { collected(ffi::rasclanya_palettes, block) }
 }
