@@ -2,7 +2,7 @@
 
 #![tactic(auto)]
 
-use errors::{Counted, Refusal};
+use errors::Refusal;
 
 // The length of the longest stored answer.
 pub const MAX_ANSWER: usize = 16384;
@@ -80,10 +80,10 @@ fn moved(at: usize, n: usize, room: usize) -> usize {
 
 // The place behind a picture that was to be written from `from` on. Where it is refused, its class is put at `at` in place of class 0, and the
 // place is behind that.
-pub fn put_outcome(out: &mut [u8], at: usize, from: usize, c: Counted) -> usize {
-    match c {
-        Counted::Count(n) => moved(from, n, out.len()),
-        Counted::Refused(refusal) => put(out, at, class(refusal)),
+pub fn put_outcome(out: &mut [u8], at: usize, from: usize, answer: Result<usize, Refusal>) -> usize {
+    match answer {
+        Ok(n) => moved(from, n, out.len()),
+        Err(refusal) => put(out, at, class(refusal)),
     }
 }
 

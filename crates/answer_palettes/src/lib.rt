@@ -5,7 +5,7 @@
 
 use answer_bytes::{class, put, put_bytes, put_part, put_u8, put_u32};
 use cursor::part_at;
-use errors::{Counted, Status};
+use errors::Refusal;
 use name::Name;
 use nitro::tex;
 use nitro::tex::PaletteRecord;
@@ -17,13 +17,13 @@ pub fn put_name(out: &mut [u8], at: usize, name: Name) -> usize {
 }
 
 // What a name call wrote, behind its length.
-fn put_text(out: &mut [u8], at: usize, c: Counted, written: &[u8]) -> usize {
-    match c {
-        Counted::Count(n) => {
+fn put_text(out: &mut [u8], at: usize, answer: Result<usize, Refusal>, written: &[u8]) -> usize {
+    match answer {
+        Ok(n) => {
             let at = put_u8(out, at, n);
             put_bytes(out, at, part_at(written, 0, n))
         }
-        Counted::Refused(refusal) => put(out, at, class(refusal)),
+        Err(refusal) => put(out, at, class(refusal)),
     }
 }
 
@@ -45,12 +45,9 @@ fn put_palette(out: &mut [u8], at: usize, record: PaletteRecord) -> usize {
 
 // What the record call answers for palette n. A refusal is its class alone, which is shorter than any record.
 fn put_palette_answer(out: &mut [u8], at: usize, block: &[u8], n: usize) -> usize {
-    let answer = tex::palette(block, n);
-    let status = answer.status;
-    let record = answer.palette;
-    match status {
-        Status::Done => put_palette(out, at, record),
-        Status::Refused(refusal) => put(out, at, class(refusal)),
+    match tex::palette(block, n) {
+        Ok(record) => put_palette(out, at, record),
+        Err(refusal) => put(out, at, class(refusal)),
     }
 }
 

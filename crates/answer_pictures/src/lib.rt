@@ -4,10 +4,9 @@
 
 use answer_bytes::{put, put_outcome};
 use decode::picture::picture;
-use places::PaletteChoice;
 
 // A texture's picture behind its class.
-fn put_picture(out: &mut [u8], at: usize, block: &[u8], n: usize, choice: PaletteChoice) -> usize {
+fn put_picture(out: &mut [u8], at: usize, block: &[u8], n: usize, choice: Option<usize>) -> usize {
     let from = put(out, at, 0);
     if out.len() < from {
         return from;
@@ -18,11 +17,11 @@ fn put_picture(out: &mut [u8], at: usize, block: &[u8], n: usize, choice: Palett
 
 // A texture's picture without a palette, and, where there is any palette, the one with a palette.
 fn put_both(out: &mut [u8], at: usize, block: &[u8], n: usize, palettes: usize) -> usize {
-    let at = put_picture(out, at, block, n, PaletteChoice::None);
+    let at = put_picture(out, at, block, n, None);
     if palettes == 0 {
         return at;
     }
-    put_picture(out, at, block, n, PaletteChoice::Number(n % palettes))
+    put_picture(out, at, block, n, Some(n % palettes))
 }
 
 // The pictures of each texture.

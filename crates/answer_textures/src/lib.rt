@@ -4,7 +4,6 @@
 
 use answer_bytes::{class, put, put_part, put_u32};
 use answer_palettes::{put_name, put_texts};
-use errors::Status;
 use nitro::tex;
 use nitro::tex::TextureRecord;
 
@@ -21,12 +20,9 @@ fn put_texture(out: &mut [u8], at: usize, block: &[u8], n: usize, record: Textur
 
 // What the record call answers for texture n. A refusal is its class alone, which is shorter than any record.
 fn put_texture_answer(out: &mut [u8], at: usize, block: &[u8], n: usize) -> usize {
-    let answer = tex::texture(block, n);
-    let status = answer.status;
-    let record = answer.texture;
-    match status {
-        Status::Done => put_texture(out, at, block, n, record),
-        Status::Refused(refusal) => put(out, at, class(refusal)),
+    match tex::texture(block, n) {
+        Ok(record) => put_texture(out, at, block, n, record),
+        Err(refusal) => put(out, at, class(refusal)),
     }
 }
 

@@ -1,8 +1,8 @@
 -- Arguments, as texts. Assumes nothing.
+use Rattle.std.specs.Prelude.{None}
 use mathlib.Core.Path.{◌≡◌, refl}
 use mathlib.Core.List.{[]}
 use Rattle.text.specs.Text.{ascii}
-use Rattle.places.specs.declared.PaletteChoice.TheVariants as choices
 use Rattle.arguments.specs.Arguments.{all_digits, spelled_from, number_of, is_dash, choice_of}
 use Rattle.arguments.specs.declared.Parsed.TheVariants as parsed
 use Rattle.arguments.specs.declared.ParsedChoice.TheVariants as parsed_choice
@@ -13,7 +13,7 @@ pub record Examples : Type 0 where
   pub above_all : number_of (ascii "65536") ≡ parsed.Number 65535
   pub no_digits : number_of [] ≡ parsed.Malformed
   pub another_byte : number_of (ascii "1x") ≡ parsed.Malformed
-  pub dash : choice_of (ascii "-") ≡ parsed_choice.Choice choices.None
+  pub dash : choice_of (ascii "-") ≡ parsed_choice.Choice None
   pub two_dashes : choice_of (ascii "--") ≡ parsed_choice.Malformed
 
 -- Each by computation.

@@ -1,4 +1,5 @@
 -- The laws of the numbers that texts spell. Assumes nothing.
+use Rattle.std.specs.Prelude.{None}
 use Prim.Native.Nat.{ℕ, zero, suc, ◌+◌, ◌/◌, ◌%◌, ◌≤◌, ◌<◌}
 use mathlib.Core.Path.{◌≡◌, refl, ap, ◌∙◌}
 use mathlib.Core.Bool.{Bool, true, false, cond, ◌&&◌}
@@ -9,7 +10,6 @@ use lib.ListN.{length, get_or, drop, length-append}
 use lib.Seq.{drop-cons}
 use lib.Dec.{ltb, leb, eqb}
 use borrow.Author.Tests.{ltb-true, ltb-false, leb-true, le-leb}
-use Rattle.places.specs.declared.PaletteChoice.TheVariants as choices
 use Rattle.text.specs.Text.{decimal_below, decimal}
 use Rattle.arguments.specs.Arguments.{is_digit, all_digits, with_digit, spelled_from, capped, number_of, is_dash, choice_by, choice_of}
 use Rattle.arguments.specs.declared.Parsed.{Parsed}
@@ -30,7 +30,7 @@ not_one_byte (b ∷ []) e = absurd (e refl)
 not_one_byte (b ∷ c ∷ later) e = refl
 
 -- the choice of a palette
-pub no_palette_lem : (text : List ℕ) → is_dash text ≡ true → parsed_choice.Choice choices.None ≡ choice_of text
+pub no_palette_lem : (text : List ℕ) → is_dash text ≡ true → parsed_choice.Choice None ≡ choice_of text
 unfolding choice_of
 no_palette_lem text e = rw e
 

@@ -1,10 +1,5 @@
 -- The numbers that texts spell, and the choice of a palette. Assumes nothing.
-use Rattle.std.specs.Prelude.{ℕ, ◌+◌, ◌-◌, ◌*◌, min, Bool, true, false, cond, ◌&&◌, List, [], ◌∷◌, leb, eqb}
-use Rattle.places.specs.declared.PaletteChoice.TheVariants as choices
-use Rattle.arguments.specs.declared.Parsed.{Parsed}
-use Rattle.arguments.specs.declared.Parsed.TheVariants as parsed
-use Rattle.arguments.specs.declared.ParsedChoice.{ParsedChoice}
-use Rattle.arguments.specs.declared.ParsedChoice.TheVariants as parsed_choice
+use Rattle.std.specs.Prelude.{ℕ, ◌+◌, ◌-◌, ◌*◌, min, Bool, true, false, cond, ◌&&◌, List, [], ◌∷◌, leb, eqb, Option, None, Some}
 
 -- The bytes of the digits 0 to 9 are 48 to 57.
 abbrev pub is_digit : ℕ → Bool
@@ -27,9 +22,9 @@ abbrev pub capped : ℕ → ℕ
 capped n = min n 65535
 
 -- The number that a text of digits spells. A text without digits, or with another byte among them, spells none.
-unfoldable pub number_of : List ℕ → Parsed
-number_of [] = parsed.Malformed
-number_of (b ∷ later) = cond (all_digits (b ∷ later)) (parsed.Number (capped (spelled_from 0 (b ∷ later)))) parsed.Malformed
+unfoldable pub number_of : List ℕ → Option ℕ
+number_of [] = None
+number_of (b ∷ later) = cond (all_digits (b ∷ later)) (Some (capped (spelled_from 0 (b ∷ later)))) None
 
 -- The text `-`, whose byte is 45.
 unfoldable pub is_dash : List ℕ → Bool
@@ -37,10 +32,10 @@ is_dash [] = false
 is_dash (b ∷ []) = eqb b 45
 is_dash (b ∷ c ∷ later) = false
 
-abbrev pub choice_by : Parsed → ParsedChoice
-choice_by (parsed.Number n) = parsed_choice.Choice (choices.Number n)
-choice_by parsed.Malformed = parsed_choice.Malformed
+abbrev pub choice_by : Option ℕ → Option (Option ℕ)
+choice_by (Some n) = Some (Some n)
+choice_by None = None
 
 -- `-` is no palette, and else the text is a palette's number.
-unfoldable pub choice_of : List ℕ → ParsedChoice
-choice_of text = cond (is_dash text) (parsed_choice.Choice choices.None) (choice_by (number_of text))
+unfoldable pub choice_of : List ℕ → Option (Option ℕ)
+choice_of text = cond (is_dash text) (Some None) (choice_by (number_of text))

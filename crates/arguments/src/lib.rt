@@ -6,22 +6,8 @@ ghost use Rattle.std.specs.Prelude.{◌≡◌};
 ghost use Rattle.arguments.specs.Arguments as Arguments;
 ghost use Rattle.arguments.specs.Digits.{Digit};
 
-use places::PaletteChoice;
-
 // A number above every count of a block. An argument that spells a greater one is taken for it: both are refused alike.
 const MAX_NUMBER: usize = 65535;
-
-#[derive(Clone, Copy)]
-pub enum Parsed {
-    Number(usize),
-    Malformed,
-}
-
-#[derive(Clone, Copy)]
-pub enum ParsedChoice {
-    Choice(PaletteChoice),
-    Malformed,
-}
 
 fn is_digit(b: u8) -> bool
     ensures { result ≡ Arguments.is_digit b }
@@ -38,12 +24,12 @@ fn with_digit(n: usize, b: u8) -> usize
     if MAX_NUMBER < next { MAX_NUMBER } else { next }
 }
 
-// A number in decimal digits, of which there is at least one.
-pub fn parse_number(text: &[u8]) -> Parsed
+// A number in decimal digits, of which there is at least one. Other texts spell none.
+pub fn parse_number(text: &[u8]) -> Option<usize>
     ensures { result ≡ Arguments.number_of text.now }
 {
     if text.len() == 0 {
-        return Parsed::Malformed;
+        return None;
     }
     let mut n = 0;
     let mut i = 0;
@@ -52,10 +38,10 @@ pub fn parse_number(text: &[u8]) -> Parsed
             n = with_digit(n, text[i]);
             i += 1;
         } else {
-            return Parsed::Malformed;
+            return None;
         }
     }
-    Parsed::Number(n)
+    Some(n)
 }
 
 fn is_dash(text: &[u8]) -> bool
@@ -68,15 +54,12 @@ fn is_dash(text: &[u8]) -> bool
     }
 }
 
-// A palette's number, or `-` for no palette.
-pub fn parse_choice(text: &[u8]) -> ParsedChoice
+// A palette's number, or `-` for no palette. Other texts spell no choice.
+pub fn parse_choice(text: &[u8]) -> Option<Option<usize>>
     ensures { result ≡ Arguments.choice_of text.now }
 {
     if is_dash(text) {
-        return ParsedChoice::Choice(PaletteChoice::None);
+        return Some(None);
     }
-    match parse_number(text) {
-        Parsed::Number(n) => ParsedChoice::Choice(PaletteChoice::Number(n)),
-        Parsed::Malformed => ParsedChoice::Malformed,
-    }
+    parse_number(text).map(Some)
 }

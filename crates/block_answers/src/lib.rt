@@ -8,7 +8,6 @@ use answer_pictures::put_pictures;
 use answer_textures::put_textures;
 use cursor::part_at;
 use nitro::tex;
-use nitro::tex::Reading;
 
 // All that is answered of a block that is read.
 fn put_read(out: &mut [u8], block: &[u8], textures: usize, palettes: usize) -> usize {
@@ -24,8 +23,8 @@ fn put_read(out: &mut [u8], block: &[u8], textures: usize, palettes: usize) -> u
 // The answer to a block. Returns its length.
 fn put_block(out: &mut [u8], block: &[u8]) -> usize {
     match tex::read_tex(block) {
-        Reading::Counts(textures, palettes) => put_read(out, block, textures, palettes),
-        Reading::Refused(refusal) => put(out, 0, class(refusal)),
+        Ok(counts) => put_read(out, block, counts.textures, counts.palettes),
+        Err(refusal) => put(out, 0, class(refusal)),
     }
 }
 

@@ -7,10 +7,9 @@ use block_report::{palettes, part, refused, textures};
 use cursor::part_at;
 use name_report::texts;
 use nitro::tex;
-use nitro::tex::Reading;
 use report::{STDIN_FILENO, number, text};
 use rows_report::all_rows;
-use util::cur::{Peeked, Taken, peek_u32, take_at};
+use util::cur::{peek_u32, take_at};
 
 // Prints every answer for a block.
 fn show(block: &[u8]) {
@@ -18,11 +17,11 @@ fn show(block: &[u8]) {
     number(block.len() as u64);
     text(b"\nreading");
     match tex::read_tex(block) {
-        Reading::Counts(textures, palettes) => {
-            number(textures as u64);
-            number(palettes as u64);
+        Ok(counts) => {
+            number(counts.textures as u64);
+            number(counts.palettes as u64);
         }
-        Reading::Refused(refusal) => refused(refusal),
+        Err(refusal) => refused(refusal),
     }
     text(b"\npal_block");
     part(tex::pal_block(block));
@@ -35,24 +34,21 @@ fn show(block: &[u8]) {
     palettes(block, 1);
     palettes(block, 18446744073709551615);
     all_rows(block);
-    let first = tex::texture(block, 0);
-    let record = first.texture;
-    let name = record.name;
-    texts(name);
+    texts(tex::texture(block, 0).unwrap_or_default().name);
 }
 
 // Shows the block whose length stands at pos, and answers where the next one begins, or the input's length where there is none.
 fn show_at(input: &[u8], pos: usize) -> usize {
     let len = match peek_u32(input, pos) {
-        Peeked::Number(len) => len as usize,
-        Peeked::Short(_) => return input.len(),
+        Ok(len) => len as usize,
+        Err(_) => return input.len(),
     };
     match take_at(input, pos + 4, len) {
-        Taken::Whole(end) => {
+        Ok(end) => {
             show(part_at(input, pos + 4, len));
             end
         }
-        Taken::Short(_) => input.len(),
+        Err(_) => input.len(),
     }
 }
 

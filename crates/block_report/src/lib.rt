@@ -2,7 +2,7 @@
 
 #![tactic(auto)]
 
-use errors::{Counted, Refusal, Status};
+use errors::Refusal;
 use name::Name;
 use nitro::tex;
 use nitro::tex::TextureRecord;
@@ -19,10 +19,10 @@ pub fn refused(refusal: Refusal) {
 }
 
 // Prints an answer that holds nothing beside a refusal.
-fn status(s: Status) {
-    match s {
-        Status::Done => text(b" done"),
-        Status::Refused(refusal) => refused(refusal),
+fn status<T: Copy>(answer: Result<T, Refusal>) {
+    match answer {
+        Ok(_) => text(b" done"),
+        Err(refusal) => refused(refusal),
     }
 }
 
@@ -43,10 +43,10 @@ pub fn part(bytes: &[u8]) {
 }
 
 // Prints an answer that is a number or a refusal.
-pub fn counted(c: Counted) {
-    match c {
-        Counted::Count(n) => number(n as u64),
-        Counted::Refused(refusal) => refused(refusal),
+pub fn counted(answer: Result<usize, Refusal>) {
+    match answer {
+        Ok(n) => number(n as u64),
+        Err(refusal) => refused(refusal),
     }
 }
 
@@ -75,10 +75,8 @@ pub fn textures(block: &[u8], n: usize) {
     text(b"texture");
     number(n as u64);
     let answer = tex::texture(block, n);
-    let outcome = answer.status;
-    let record = answer.texture;
-    status(outcome);
-    texture(record);
+    status(answer);
+    texture(answer.unwrap_or_default());
     text(b"\ndata1");
     part(tex::texture_data1(block, n));
     text(b"\ndata2");
@@ -91,11 +89,9 @@ pub fn palettes(block: &[u8], n: usize) {
     text(b"palette");
     number(n as u64);
     let answer = tex::palette(block, n);
-    let outcome = answer.status;
-    let record = answer.palette;
-    let name = record.name;
-    status(outcome);
+    status(answer);
+    let record = answer.unwrap_or_default();
     number(record.off as u64);
-    raw(name);
+    raw(record.name);
     text(b"\n");
 }

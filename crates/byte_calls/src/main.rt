@@ -5,7 +5,7 @@
 use cursor::{nth_u16, part_at};
 use report::{decimal, text};
 use util::bits::{bits_u8, bits_u16, bits_u32};
-use util::cur::{Needed, Peeked, Taken, peek_u8, peek_u16, peek_u32, take_at};
+use util::cur::{Needed, peek_u8, peek_u16, peek_u32, take_at};
 
 // Writes a number and the end of the line.
 fn number(n: u64) {
@@ -44,11 +44,11 @@ fn fields32(x: u32, lo: u32, hi: u32) {
 fn taken(buf: &[u8], pos: usize, n: usize) {
     text(b"take ");
     match take_at(buf, pos, n) {
-        Taken::Whole(end) => {
+        Ok(end) => {
             text(b"whole ");
             number(end as u64);
         }
-        Taken::Short(needed) => short(needed),
+        Err(needed) => short(needed),
     }
     text(b"part [");
     text(part_at(buf, pos, n));
@@ -56,11 +56,11 @@ fn taken(buf: &[u8], pos: usize, n: usize) {
 }
 
 // Writes the answer of a call that reads a number.
-fn peeked(p: Peeked) {
+fn peeked(answer: Result<u32, Needed>) {
     text(b"peek ");
-    match p {
-        Peeked::Number(n) => number(n as u64),
-        Peeked::Short(needed) => short(needed),
+    match answer {
+        Ok(n) => number(n as u64),
+        Err(needed) => short(needed),
     }
 }
 

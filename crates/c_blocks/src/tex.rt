@@ -2,7 +2,7 @@
 ghost use Rattle.std.specs.Prelude.{◌≡◌, ◌++◌, ◌≤◌, length, drop};
 ghost use Rattle.told.specs.Told as Told;
 
-use errors::{Refusal, Status};
+use errors::Refusal;
 use name::Name;
 use nitro::tex;
 use text::put;
@@ -53,15 +53,13 @@ pub extern "C" fn rasclanya_texture(
     ensures alpha_after { alpha.new ≡ Told.left alpha.old Told.texture_alpha (Told.texture block.now n name.old) }
     ensures needed_after { needed.new ≡ Told.needed_of (Told.texture block.now n name.old) }
 {
-    let answer = tex::texture(block, n);
-    let status = answer.status;
-    if let Status::Refused(refusal) = status {
-        return refuse(refusal, needed);
-    }
+    let texture = match tex::texture(block, n) {
+        Ok(texture) => texture,
+        Err(refusal) => return refuse(refusal, needed),
+    };
     if name.len() < 16 {
         return refuse(Refusal::Output, needed);
     }
-    let texture = answer.texture;
     let s = texture.wrap_s;
     let t = texture.wrap_t;
     let kind = texture.alpha;
@@ -88,15 +86,13 @@ pub extern "C" fn rasclanya_palette(
     ensures off_after { off.new ≡ Told.left off.old Told.palette_off (Told.palette block.now n name.old) }
     ensures needed_after { needed.new ≡ Told.needed_of (Told.palette block.now n name.old) }
 {
-    let answer = tex::palette(block, n);
-    let status = answer.status;
-    if let Status::Refused(refusal) = status {
-        return refuse(refusal, needed);
-    }
+    let palette = match tex::palette(block, n) {
+        Ok(palette) => palette,
+        Err(refusal) => return refuse(refusal, needed),
+    };
     if name.len() < 16 {
         return refuse(Refusal::Output, needed);
     }
-    let palette = answer.palette;
     put_name(name, palette.name);
     *off = palette.off;
     *needed = 0;

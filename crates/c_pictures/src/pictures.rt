@@ -6,7 +6,7 @@ ghost use Rattle.told.specs.Told as Told;
 use decode::decode_texture::decode_texture;
 use decode::picture::picture;
 use nds::texture_params::TextureParams;
-use told::{choice_of, off_of, tell_count, tell_len};
+use told::{choice_of, tell_count, tell_len};
 
 // Decodes a texture by its word and data, with the palette at palette_off of a palette block.
 #[unsafe(no_mangle)]
@@ -24,7 +24,7 @@ pub extern "C" fn rasclanya_decode_texture(
     ensures out_after { out.new ≡ write_output (Told.decoding word data1.now data2.now has_palette palette_off pal.now) out.old }
     ensures len_after { len.new ≡ Told.left len.old Told.itself (write_outcome (Told.decoding word data1.now data2.now has_palette palette_off pal.now) out.old) }
 {
-    let palette = off_of(has_palette, palette_off);
+    let palette = choice_of(has_palette, palette_off);
     tell_len(
         decode_texture(TextureParams(word), data1, data2, palette, pal, out),
         len,

@@ -1,4 +1,5 @@
 -- The laws of parts that are told by their places. Assumes nothing.
+use Rattle.std.specs.Prelude.{None}
 use Prim.Native.Nat.{ℕ}
 use mathlib.Core.Path.{◌≡◌, refl, sym, subst, ◌∙◌}
 use mathlib.Core.List.{List}
@@ -10,7 +11,6 @@ use Rattle.scripts.specs.Script.{run}
 use Rattle.reading.specs.Tex.{read_tex}
 use Rattle.nitro.specs.Calls.{data1_of, data2_of, pal_block_of}
 use Rattle.places.specs.Sources.{places_of, pal_place_of, part_at}
-use Rattle.places.specs.declared.PaletteChoice.TheVariants as choice
 use Rattle.places.specs.declared.Place.{Place}
 use Rattle.places.specs.declared.Places.{Places}
 use Rattle.places.proofs.Sources.{passed_on, located_sources, sources_data, placed_part}
@@ -20,9 +20,9 @@ use Rattle.told.specs.Told.{data1, data2, pal_block}
 
 -- what is told of a part, and of a call that is declined
 module _ (b : List ℕ) (n : ℕ) where
-  module _ {places : Places} (found : result places ≡ places_of n choice.None b (run read_tex b)) where
+  module _ {places : Places} (found : result places ≡ places_of n None b (run read_tex b)) where
     data_parts : (part_at b places.data1 ≡ data1_of n (run read_tex b)) × (part_at b places.data2 ≡ data2_of n (run read_tex b))
-    data_parts = sources_data n choice.None _ (located_sources n choice.None b found)
+    data_parts = sources_data n None _ (located_sources n None b found)
 
     pub data1_told : result (place_of places.data1.pos (part_at b places.data1)) ≡ data1 b n
     unfolding data1 ◌>>=◌
@@ -32,7 +32,7 @@ module _ (b : List ℕ) (n : ℕ) where
     unfolding data2 ◌>>=◌
     data2_told = rw (← found, data_parts.1)
 
-  module _ (r : Refusal) (e : refusal_outcome r ≡ places_of n choice.None b (run read_tex b)) where
+  module _ (r : Refusal) (e : refusal_outcome r ≡ places_of n None b (run read_tex b)) where
     pub data1_refused : refusal_outcome r ≡ data1 b n
     unfolding data1
     data1_refused = passed_on r _ _ e
@@ -66,13 +66,13 @@ module _ (b : List ℕ) {place : Place} where
   pub data1_inside : (n : ℕ) → data1 b n ≡ result place → Inside b (data1_of n (run read_tex b)) place
   unfolding data1
   data1_inside n =
-      told_inside (λ (x : Places). x.data1) b (data1_of n (run read_tex b)) (places_of n choice.None b (run read_tex b)) _
+      told_inside (λ (x : Places). x.data1) b (data1_of n (run read_tex b)) (places_of n None b (run read_tex b)) _
       (λ places found. (refl, (data_parts b n found).0))
 
   pub data2_inside : (n : ℕ) → data2 b n ≡ result place → Inside b (data2_of n (run read_tex b)) place
   unfolding data2
   data2_inside n =
-      told_inside (λ (x : Places). x.data2) b (data2_of n (run read_tex b)) (places_of n choice.None b (run read_tex b)) _
+      told_inside (λ (x : Places). x.data2) b (data2_of n (run read_tex b)) (places_of n None b (run read_tex b)) _
       (λ places found. (refl, (data_parts b n found).1))
 
   pub pal_block_inside : pal_block b ≡ result place → Inside b (pal_block_of (run read_tex b)) place

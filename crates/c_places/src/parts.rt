@@ -3,7 +3,6 @@ ghost use Rattle.std.specs.Prelude.{◌≡◌};
 ghost use Rattle.told.specs.Told as Told;
 
 use cursor::part_at;
-use places::{Located, PaletteChoice, Placed};
 use told::{refuse, tell_part};
 
 // Where in the block the data of texture n are, or a block-compressed texture's first data, and how long it is. An empty part begins at 0.
@@ -20,8 +19,8 @@ pub extern "C" fn rasclanya_texture_data1(
     ensures len_after { len.new ≡ Told.left len.old Told.len (Told.data1 block.now n) }
     ensures needed_after { needed.new ≡ Told.needed_of (Told.data1 block.now n) }
 {
-    match places::locate(block, n, PaletteChoice::None) {
-        Located::Found(places) => {
+    match places::locate(block, n, None) {
+        Ok(places) => {
             let place = places.data1;
             tell_part(
                 place.pos,
@@ -31,7 +30,7 @@ pub extern "C" fn rasclanya_texture_data1(
                 needed,
             )
         }
-        Located::Refused(refusal) => refuse(refusal, needed),
+        Err(refusal) => refuse(refusal, needed),
     }
 }
 
@@ -49,8 +48,8 @@ pub extern "C" fn rasclanya_texture_data2(
     ensures len_after { len.new ≡ Told.left len.old Told.len (Told.data2 block.now n) }
     ensures needed_after { needed.new ≡ Told.needed_of (Told.data2 block.now n) }
 {
-    match places::locate(block, n, PaletteChoice::None) {
-        Located::Found(places) => {
+    match places::locate(block, n, None) {
+        Ok(places) => {
             let place = places.data2;
             tell_part(
                 place.pos,
@@ -60,7 +59,7 @@ pub extern "C" fn rasclanya_texture_data2(
                 needed,
             )
         }
-        Located::Refused(refusal) => refuse(refusal, needed),
+        Err(refusal) => refuse(refusal, needed),
     }
 }
 
@@ -78,7 +77,7 @@ pub extern "C" fn rasclanya_pal_block(
     ensures needed_after { needed.new ≡ Told.needed_of (Told.pal_block block.now) }
 {
     match places::pal_place(block) {
-        Placed::Found(place) => {
+        Ok(place) => {
             tell_part(
                 place.pos,
                 part_at(block, place.pos, place.len),
@@ -87,6 +86,6 @@ pub extern "C" fn rasclanya_pal_block(
                 needed,
             )
         }
-        Placed::Refused(refusal) => refuse(refusal, needed),
+        Err(refusal) => refuse(refusal, needed),
     }
 }

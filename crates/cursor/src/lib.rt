@@ -3,10 +3,10 @@
 #![tactic(auto)]
 
 ghost use Rattle.std.specs.Prelude.{◌≡◌, ◌+◌, ◌*◌, length};
-ghost use Rattle.util.specs.Take.{peeked_outcome, peek_of, taken_part, taken_to};
+ghost use Rattle.util.specs.Take.{taken_outcome, peek_of, taken_part, taken_to};
 ghost use Rattle.cursor.specs.Cursor.{bytes, taken_on};
 
-use util::cur::{Peeked, Taken, take_at};
+use util::cur::{Needed, take_at};
 use util::view::view_u16;
 
 // The n bytes at pos, as the part of buf that they occupy, or the empty part where buf is short.
@@ -14,30 +14,25 @@ fn part_of(buf: &[u8], pos: usize, n: usize) -> &[u8]
     ensures { result.now ≡ taken_part pos n buf.now }
 {
     match take_at(buf, pos, n) {
-        Taken::Whole(end) => &buf[pos..end],
-        Taken::Short(_) => &buf[..0],
+        Ok(end) => &buf[pos..end],
+        Err(_) => &buf[..0],
     }
 }
 
 // The n-th number of 2 bytes from pos on, counted from 0.
-fn nth_u16_of(buf: &[u8], pos: usize, n: u32) -> Peeked
-    ensures { peeked_outcome result ≡ peek_of 2 (pos + 2 * n) buf.now }
+fn nth_u16_of(buf: &[u8], pos: usize, n: u32) -> Result<u32, Needed>
+    ensures { taken_outcome result ≡ peek_of 2 (pos + 2 * n) buf.now }
 {
     let before = 2 * (n as usize);
-    match take_at(buf, pos, before + 2) {
-        Taken::Whole(_) => Peeked::Number(view_u16(buf, pos + before) as u32),
-        Taken::Short(needed) => Peeked::Short(needed),
-    }
+    take_at(buf, pos, before + 2)?;
+    Ok(view_u16(buf, pos + before) as u32)
 }
 
 // The position after a take of n bytes at pos: behind them, or pos where buf is short.
 fn pos_after(buf: &[u8], pos: usize, n: usize) -> usize
     ensures { result ≡ taken_to (length buf.now) pos n }
 {
-    match take_at(buf, pos, n) {
-        Taken::Whole(end) => end,
-        Taken::Short(_) => pos,
-    }
+    take_at(buf, pos, n).unwrap_or(pos)
 }
 
 // A slice and a position in it, which may be beyond the end. Its functions hold no test of their own: they call the functions above on the two.
@@ -49,8 +44,8 @@ pub struct Cur<'a> {
 
 impl<'a> Cur<'a> {
     // The n-th number of 2 bytes from the position on, counted from 0. The position stays.
-    pub fn nth_u16(self, n: u32) -> Peeked
-        ensures { peeked_outcome result ≡ peek_of 2 (self.entry.pos + 2 * n) (bytes self.entry) }
+    pub fn nth_u16(self, n: u32) -> Result<u32, Needed>
+        ensures { taken_outcome result ≡ peek_of 2 (self.entry.pos + 2 * n) (bytes self.entry) }
     {
         nth_u16_of(self.buf, self.pos, n)
     }
@@ -69,8 +64,8 @@ impl<'a> Cur<'a> {
 }
 
 // The n-th number of 2 bytes from pos on, counted from 0.
-pub fn nth_u16(buf: &[u8], pos: usize, n: u32) -> Peeked
-    ensures { peeked_outcome result ≡ peek_of 2 (pos + 2 * n) buf.now }
+pub fn nth_u16(buf: &[u8], pos: usize, n: u32) -> Result<u32, Needed>
+    ensures { taken_outcome result ≡ peek_of 2 (pos + 2 * n) buf.now }
 {
     Cur { buf, pos }.nth_u16(n)
 }

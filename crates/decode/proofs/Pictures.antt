@@ -1,4 +1,5 @@
 -- The laws of direct decoding: when it is declined, the sizes of what is decoded, and the texels by format. Assumes nothing.
+use Rattle.std.specs.Prelude.{Option}
 use Prim.Native.Nat.{ℕ, ◌*◌, ◌/◌, ◌%◌, ◌^◌, ◌≤◌, ◌<◌}
 use mathlib.Core.Path.{◌≡◌, refl, sym, ◌∙◌, subst}
 use mathlib.Core.Bool.{Bool, true, false, cond}
@@ -20,8 +21,6 @@ use Rattle.output.proofs.Outputs.{writes_fits, writes_refusal, writes_short}
 use Rattle.scripts.specs.Script.{Answer}
 use Rattle.reading.specs.Tex.{Contents}
 use Rattle.places.specs.Sources.{Sources, sources_of}
-use Rattle.places.specs.declared.PaletteChoice.{PaletteChoice}
-use Rattle.places.specs.declared.PaletteOff.{PaletteOff}
 use Rattle.places.proofs.Sources.{passed_on}
 use Rattle.texels.specs.Texels as Texels
 use Rattle.paint.specs.Paint.{painted}
@@ -63,7 +62,7 @@ eights w =
     }
 
 -- when a call is declined, in the order of the checks
-module _ (w length1 length2 : ℕ) (palette : PaletteOff) (room : ℕ) where
+module _ (w length1 length2 : ℕ) (palette : Option ℕ) (room : ℕ) where
   pub no_palette_lem : lacks_palette w palette ≡ true → refusal 9 0 ≡ checked w length1 length2 palette room
   unfolding checked ready ◌>>=◌
   no_palette_lem e = rw e
@@ -248,7 +247,7 @@ module _ (w : ℕ) where
   second_by e = rw (eq-eqb (format w) 5 e)
 
 -- a picture from a block, by what was located
-module _ (n : ℕ) (choice : PaletteChoice) (a : Answer Contents) where
+module _ (n : ℕ) (choice : Option ℕ) (a : Answer Contents) where
   pub picture_found : {s : Sources} → result s ≡ sources_of n choice a → picture_of n choice a ≡ decoded s
   unfolding picture_of ◌>>=◌
   picture_found e = rw (← e)

@@ -1,14 +1,11 @@
 -- Pictures: texels in order, direct decoding, and a picture from a block. Assumes nothing.
-use Rattle.std.specs.Prelude.{ℕ, ◌*◌, ◌/◌, ◌%◌, Bool, false, cond, ◌||◌, List, length, ltb, eqb}
+use Rattle.std.specs.Prelude.{ℕ, ◌*◌, ◌/◌, ◌%◌, Bool, false, cond, ◌||◌, List, length, ltb, eqb, Option, None, Some}
 use Rattle.util.specs.Outcome.{Outcome, result, refusal, ◌>>=◌}
 use Rattle.nds.specs.Params.{width, height, format, color0_transparent}
 use Rattle.nds.specs.Formats.{palette_needed, data_length, second_length}
 use Rattle.scripts.specs.Script.{Answer}
 use Rattle.reading.specs.Tex.{Contents}
 use Rattle.places.specs.Sources.{Sources, sources_of}
-use Rattle.places.specs.declared.PaletteChoice.{PaletteChoice}
-use Rattle.places.specs.declared.PaletteOff.{PaletteOff}
-use Rattle.places.specs.declared.PaletteOff.TheVariants as off
 use Rattle.texels.specs.Texels as Texels
 use Rattle.output.specs.Output.{pieces}
 
@@ -20,9 +17,9 @@ abbrev pub picture_length : (word : ℕ) → ℕ
 picture_length w = 4 * texel_count w
 
 -- A palette's byte offset. Without one no colour is looked up: format 7 has its own, and the others are refused.
-abbrev pub off_of : PaletteOff → ℕ
-off_of off.None = 0
-off_of (off.At p) = p
+abbrev pub off_of : Option ℕ → ℕ
+off_of None = 0
+off_of (Some p) = p
 
 -- Texel n, by the word's format. Format 0 has none.
 unfoldable pub texel : Sources → (n : ℕ) → List ℕ
@@ -44,16 +41,16 @@ unfoldable pub picture_bytes : Sources → List ℕ
 picture_bytes s = pieces (texel s) (texel_count s.word)
 
 -- 01, "When a call is declined": "formats 1 to 6, no palette chosen".
-abbrev pub lacks_palette : (word : ℕ) → PaletteOff → Bool
-lacks_palette w off.None = palette_needed (format w)
-lacks_palette w (off.At p) = false
+abbrev pub lacks_palette : (word : ℕ) → Option ℕ → Bool
+lacks_palette w None = palette_needed (format w)
+lacks_palette w (Some p) = false
 
 -- "data (second too, for 5) shorter than the word says": by the lengths of the first and second data.
 abbrev pub lacks_data : (word length1 length2 : ℕ) → Bool
 lacks_data w length1 length2 = ltb length1 (data_length w) || ltb length2 (second_length w)
 
 -- 9, 10 for "format 0", and 12, in this order.
-unfoldable pub ready : (word length1 length2 : ℕ) → PaletteOff → Outcome (Unit {0})
+unfoldable pub ready : (word length1 length2 : ℕ) → Option ℕ → Outcome (Unit {0})
 ready w length1 length2 palette =
     cond (lacks_palette w palette) (refusal 9 0)
     (cond (eqb (format w) 0) (refusal 10 0) (cond (lacks_data w length1 length2) (refusal 12 0) (result tt)))
@@ -65,12 +62,12 @@ decoded s = do
   result (picture_bytes s)
 
 -- "(word, first and second data, optional palette block with 32-bit offset)": what a direct decoding is given.
-abbrev pub sources : (word : ℕ) (data1 data2 : List ℕ) → PaletteOff → (pal_block : List ℕ) → Sources
+abbrev pub sources : (word : ℕ) (data1 data2 : List ℕ) → Option ℕ → (pal_block : List ℕ) → Sources
 sources word data1 data2 palette pal_block =
     record { word = word; parts = record { data1 = data1; data2 = data2 }; palette = palette; pal_block = pal_block }
 
 -- "A picture from a block: reading, 7, 8 (also where the palette is unneeded), 9, 10, 12, 11."
-unfoldable pub picture_of : (n : ℕ) → PaletteChoice → Answer Contents → Outcome (List ℕ)
+unfoldable pub picture_of : (n : ℕ) → Option ℕ → Answer Contents → Outcome (List ℕ)
 picture_of n choice a = do
   sources ← sources_of n choice a
   decoded sources

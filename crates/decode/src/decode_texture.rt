@@ -1,6 +1,6 @@
 // Decodes textures to RGBA, eight bits a channel.
 ghost use Rattle.std.specs.Prelude.{◌≡◌, ◌<◌, ◌^◌, length};
-ghost use Rattle.errors.specs.Refusal.{status_outcome, counted_outcome};
+ghost use Rattle.errors.specs.Refusal.{result_outcome};
 ghost use Rattle.output.specs.Output.{Writes};
 ghost use Rattle.paint.specs.Paint as Paint;
 ghost use Rattle.decode.specs.Pictures as Pictures;
@@ -8,10 +8,9 @@ ghost use Rattle.decode.specs.Checks as Checks;
 
 use compressed::decode_format5;
 use direct::decode_format7;
-use errors::{Counted, Refusal, Status};
+use errors::Refusal;
 use nds::texture_params::TextureParams;
 use paint::{decode_format1, decode_format2, decode_format3, decode_format4, decode_format6};
-use places::PaletteOff;
 
 // The number of texels of a picture.
 fn num_texels(params: TextureParams) -> usize
@@ -21,13 +20,13 @@ fn num_texels(params: TextureParams) -> usize
 }
 
 // Whether the texture's format needs a palette that was not chosen.
-fn lacks_palette(params: TextureParams, palette: PaletteOff) -> bool
+fn lacks_palette(params: TextureParams, palette: Option<u32>) -> bool
     ensures { result ≡ Pictures.lacks_palette params.0 palette }
 {
     let desc = params.format().desc();
     match palette {
-        PaletteOff::None => desc.requires_palette,
-        PaletteOff::At(_) => false,
+        None => desc.requires_palette,
+        Some(_) => false,
     }
 }
 
@@ -53,38 +52,35 @@ fn check(
     params: TextureParams,
     len1: usize,
     len2: usize,
-    palette: PaletteOff,
+    palette: Option<u32>,
     room: usize,
-) -> Status
-    ensures { status_outcome result ≡ Checks.checked params.0 len1 len2 palette room }
+) -> Result<(), Refusal>
+    ensures { result_outcome result ≡ Checks.checked params.0 len1 len2 palette room }
 {
     let no_palette = lacks_palette(params, palette);
     let format = params.format();
     let no_data = lacks_data(params, len1, len2);
     let no_room = lacks_room(params, room);
     if no_palette {
-        return Status::Refused(Refusal::NoPalette);
+        return Err(Refusal::NoPalette);
     }
     if format.0 == 0 {
-        return Status::Refused(Refusal::NoTexels);
+        return Err(Refusal::NoTexels);
     }
     if no_data {
-        return Status::Refused(Refusal::ShortData);
+        return Err(Refusal::ShortData);
     }
     if no_room {
-        return Status::Refused(Refusal::Output);
+        return Err(Refusal::Output);
     }
-    Status::Done
+    Ok(())
 }
 
 // The offset of a palette, or 0 where there is none.
-fn off_of(palette: PaletteOff) -> u32
+fn off_of(palette: Option<u32>) -> u32
     ensures { result ≡ Pictures.off_of palette }
 {
-    match palette {
-        PaletteOff::None => 0,
-        PaletteOff::At(off) => off,
-    }
+    palette.unwrap_or(0)
 }
 
 // Writes all texels, by the texture's format.
@@ -93,7 +89,7 @@ fn decode_format(
     params: TextureParams,
     data1: &[u8],
     data2: &[u8],
-    palette: PaletteOff,
+    palette: Option<u32>,
     pal: &[u8],
 )
     requires { Checks.Decodable params.0 (length data1.now) (length data2.now) (length out.old) }
@@ -123,16 +119,14 @@ pub fn decode_texture(
     params: TextureParams,
     data1: &[u8],
     data2: &[u8],
-    palette: PaletteOff,
+    palette: Option<u32>,
     pal: &[u8],
     out: &mut [u8],
-) -> Counted
-    ensures { Writes (Pictures.decoded (Pictures.sources params.0 data1.now data2.now palette pal.now)) out.old (counted_outcome result) out.new }
+) -> Result<usize, Refusal>
+    ensures { Writes (Pictures.decoded (Pictures.sources params.0 data1.now data2.now palette pal.now)) out.old (result_outcome result) out.new }
 {
     let len = 4 * num_texels(params);
-    if let Status::Refused(refusal) = check(params, data1.len(), data2.len(), palette, out.len()) {
-        return Counted::Refused(refusal);
-    }
+    check(params, data1.len(), data2.len(), palette, out.len())?;
     decode_format(out, params, data1, data2, palette, pal);
-    Counted::Count(len)
+    Ok(len)
 }

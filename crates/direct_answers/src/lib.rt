@@ -6,13 +6,12 @@ use answer_bytes::{ROOM, UNWRITTEN, put, put_outcome, same};
 use cursor::part_at;
 use decode::decode_texture::decode_texture;
 use nds::texture_params::TextureParams;
-use places::PaletteOff;
 
 // What a direct decoding is given, but for its parts.
 #[derive(Clone, Copy)]
 pub struct Request {
     pub params: TextureParams,
-    pub palette: PaletteOff,
+    pub palette: Option<u32>,
     pub data1_len: u32,
     pub data2_len: u32,
     pub pal_len: u32,

@@ -1,14 +1,10 @@
 -- Refusals, by the rows of 01's table "When a call is declined": "Number" and "Returned". Assumes nothing.
-use Rattle.std.specs.Prelude.{ℕ}
+use Rattle.std.specs.Prelude.{ℕ, Result, Ok, Err}
 use Rattle.util.specs.Outcome.{Outcome, result, refusal}
 use Rattle.errors.specs.declared.Kind.{Kind}
 use Rattle.errors.specs.declared.Kind.TheVariants.{Texture, Palette}
 use Rattle.errors.specs.declared.Refusal.{Refusal}
-use Rattle.errors.specs.declared.Refusal.TheVariants.{Short, Stamp, Dummy, DatumSize, Number, NoPalette, NoTexels, Output, ShortData}
-use Rattle.errors.specs.declared.Status.{Status}
-use Rattle.errors.specs.declared.Status.TheVariants as status
-use Rattle.errors.specs.declared.Counted.{Counted}
-use Rattle.errors.specs.declared.Counted.TheVariants as counted
+use Rattle.errors.specs.declared.Refusal.TheVariants.{Short, Stamp, Dummy, DatumSize, Number, NoPalette, NoTexels, Output, ShortData, LongInput}
 
 -- What a reading finds wrong with a block that is long enough.
 pub data Fault : Type 0 where
@@ -42,6 +38,7 @@ refusal_number NoPalette = 9
 refusal_number NoTexels = 10
 refusal_number Output = 11
 refusal_number ShortData = 12
+refusal_number LongInput = 13
 
 -- And its value: "take is short" returns the want, and every other row 0.
 abbrev pub refusal_returned : Refusal → ℕ
@@ -54,15 +51,12 @@ refusal_returned NoPalette = 0
 refusal_returned NoTexels = 0
 refusal_returned Output = 0
 refusal_returned ShortData = 0
+refusal_returned LongInput = 0
 
 abbrev pub refusal_outcome : {A : Type 0} → Refusal → Outcome A
 refusal_outcome r = refusal (refusal_number r) (refusal_returned r)
 
--- The code's answers that hold nothing, or a number, beside the refusal.
-abbrev pub status_outcome : Status → Outcome (Unit {0})
-status_outcome status.Done = result tt
-status_outcome (status.Refused r) = refusal_outcome r
-
-abbrev pub counted_outcome : Counted → Outcome ℕ
-counted_outcome (counted.Count n) = result n
-counted_outcome (counted.Refused r) = refusal_outcome r
+-- The code's answers.
+abbrev pub result_outcome : {A : Type 0} → Result A Refusal → Outcome A
+result_outcome (Ok a) = result a
+result_outcome (Err r) = refusal_outcome r

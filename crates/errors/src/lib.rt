@@ -32,18 +32,8 @@ pub enum Refusal {
     Output,
     // The texture's data are shorter than its word says.
     ShortData,
-}
-
-#[derive(Clone, Copy)]
-pub enum Status {
-    Done,
-    Refused(Refusal),
-}
-
-#[derive(Clone, Copy)]
-pub enum Counted {
-    Count(usize),
-    Refused(Refusal),
+    // The input of a listing is longer than is read.
+    LongInput,
 }
 
 impl Refusal {
@@ -70,6 +60,7 @@ impl Refusal {
             Refusal::NoTexels => 10,
             Refusal::Output => 11,
             Refusal::ShortData => 12,
+            Refusal::LongInput => 13,
         }
     }
 
@@ -79,14 +70,7 @@ impl Refusal {
     {
         match self {
             Refusal::Short(needed) => needed,
-            Refusal::Stamp => 0,
-            Refusal::Dummy(_) => 0,
-            Refusal::DatumSize(_) => 0,
-            Refusal::Number(_) => 0,
-            Refusal::NoPalette => 0,
-            Refusal::NoTexels => 0,
-            Refusal::Output => 0,
-            Refusal::ShortData => 0,
+            _ => 0,
         }
     }
 }

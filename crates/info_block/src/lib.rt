@@ -3,10 +3,10 @@
 #![tactic(auto)]
 
 ghost use Rattle.std.specs.Prelude.{◌≡◌, ◌+◌, ◌<◌, ◌≤◌, ◌^◌, length, take as first_bytes, drop};
-ghost use Rattle.errors.specs.Refusal.{counted_outcome};
+ghost use Rattle.errors.specs.Refusal.{result_outcome};
 ghost use Rattle.info_block.specs.InfoBlock as InfoBlock;
 
-use errors::{Counted, Kind, Refusal, Status};
+use errors::{Kind, Refusal};
 use name::Name;
 use scripts::take;
 use util::view::{view_u8, view_u16};
@@ -22,39 +22,31 @@ fn datum_size(kind: Kind) -> usize
 }
 
 // Reads the list of c entries at pos whole, and checks it.
-fn read_whole(block: &[u8], kind: Kind, pos: usize, c: usize) -> Counted
+fn read_whole(block: &[u8], kind: Kind, pos: usize, c: usize) -> Result<usize, Refusal>
     requires { (pos < 2 ^ 32) × (c < 2 ^ 8) }
-    ensures { counted_outcome result ≡ InfoBlock.list_count (InfoBlock.whole_list kind pos c) block.now }
+    ensures { result_outcome result ≡ InfoBlock.list_count (InfoBlock.whole_list kind pos c) block.now }
 {
     let size = datum_size(kind);
-    match take(block, pos, 16 + 4 * c + size * c + 16 * c) {
-        Status::Refused(refusal) => Counted::Refused(refusal),
-        Status::Done => {
-            let dummy = view_u8(block, pos);
-            let size_of_datum = view_u16(block, pos + (12 + 4 * c)) as usize;
-            if dummy != 0 {
-                return Counted::Refused(Refusal::Dummy(kind));
-            }
-            if size_of_datum != size {
-                return Counted::Refused(Refusal::DatumSize(kind));
-            }
-            Counted::Count(c)
-        }
+    take(block, pos, 16 + 4 * c + size * c + 16 * c)?;
+    let dummy = view_u8(block, pos);
+    let size_of_datum = view_u16(block, pos + (12 + 4 * c)) as usize;
+    if dummy != 0 {
+        return Err(Refusal::Dummy(kind));
     }
+    if size_of_datum != size {
+        return Err(Refusal::DatumSize(kind));
+    }
+    Ok(c)
 }
 
 // Reads the list at pos: its count, then the whole list, then its dummy and its datum size. Answers with the count.
-pub fn read(block: &[u8], kind: Kind, pos: u32) -> Counted
-    ensures { counted_outcome result ≡ InfoBlock.list_count (InfoBlock.name_list kind pos) block.now }
+pub fn read(block: &[u8], kind: Kind, pos: u32) -> Result<usize, Refusal>
+    ensures { result_outcome result ≡ InfoBlock.list_count (InfoBlock.name_list kind pos) block.now }
 {
     let pos = pos as usize;
-    match take(block, pos, 2) {
-        Status::Refused(refusal) => Counted::Refused(refusal),
-        Status::Done => {
-            let c = view_u8(block, pos + 1) as usize;
-            read_whole(block, kind, pos, c)
-        }
-    }
+    take(block, pos, 2)?;
+    let c = view_u8(block, pos + 1) as usize;
+    read_whole(block, kind, pos, c)
 }
 
 // The name of the 16 bytes at pos.

@@ -1,4 +1,5 @@
 -- Calls that go by what a script comes to: such a call is short exactly where the script is. Assumes nothing.
+use Rattle.std.specs.Prelude.{Option, None, Some}
 use Prim.Native.Nat.{ℕ, zero, suc, ◌≤◌, ◌<◌}
 use mathlib.Core.Path.{◌≡◌, refl, ap, ◌∙◌, sym}
 use mathlib.Core.Bool.{Bool, true, false, cond}
@@ -23,9 +24,6 @@ use Rattle.layout.specs.declared.Layout.{Layout}
 use Rattle.nitro.specs.Calls as Calls
 use Rattle.places.specs.Sources as Sources
 use Rattle.rows.specs.Rows.{rows_in, rows_of}
-use Rattle.places.specs.declared.PaletteChoice.{PaletteChoice}
-use Rattle.places.specs.declared.PaletteChoice.TheVariants as choices
-use Rattle.places.specs.declared.PaletteOff.{PaletteOff}
 use Rattle.places.specs.declared.Place.{Place}
 use Rattle.places.specs.declared.Places.{Places}
 use Rattle.scripts.proofs.Runs.{bytes_out}
@@ -147,16 +145,16 @@ module _ (n : ℕ) where
   data2_scripted = of_answer read_tex (Calls.texture_of n) (Calls.data2_of n) [] (λ w. (refl, refl)) texture_short
 
 -- what a picture is made from, where it is, and the picture
-chosen_not : (choice : PaletteChoice) (palettes : List Palette) → NotShort (Sources.chosen_of choice palettes)
+chosen_not : (choice : Option ℕ) (palettes : List Palette) → NotShort (Sources.chosen_of choice palettes)
 unfolding Sources.chosen_of
-chosen_not choices.None palettes w e = result_not {A = PaletteOff} w e
-chosen_not (choices.Number k) palettes w e = entry_not kinds.Palette _ palettes k w e
+chosen_not None palettes w e = result_not {A = Option ℕ} w e
+chosen_not (Some k) palettes w e = entry_not kinds.Palette _ palettes k w e
 
 cond_not : {A : Type 0} (t : Bool) {x y : Outcome A} → NotShort x → NotShort y → NotShort (cond t x y)
 cond_not true d e = d
 cond_not false d e = e
 
-ready_not : (word length1 length2 : ℕ) (palette : PaletteOff) → NotShort (ready word length1 length2 palette)
+ready_not : (word length1 length2 : ℕ) (palette : Option ℕ) → NotShort (ready word length1 length2 palette)
 unfolding ready
 ready_not word length1 length2 palette =
     cond_not (lacks_palette word palette) (number_not {A = Unit {0}} {k = 9} (λ e. omega (arith, e)))
@@ -237,7 +235,7 @@ module _ (kind : Kind) where
         outcome_short (run read_tex b) _ (λ _. result_not {A = List ℕ}) w (write_short (rows_of kind b (run read_tex b)) output w e);
   }
 
-module _ (n : ℕ) (choice : PaletteChoice) where
+module _ (n : ℕ) (choice : Option ℕ) where
   sources_short : (a : Answer Contents) (w : ℕ) → Sources.sources_of n choice a ≡ refusal 1 w → a ≡ short w
   unfolding Sources.sources_of
   sources_short a w e =

@@ -6,7 +6,7 @@
 -- block (`stream` specs/Fetch.antt); the listing, which has a text also for a block that is refused, and so another text for a block that is cut;
 -- and `show::show`, which takes a file and is `pam` for one that is not too long. A form for C is not here either: it tells what these calls answer and leave,
 -- by equations over that alone (`told` specs/Told.antt), so what a law says of the call it says of the form. Assumes nothing.
-use Rattle.std.specs.Prelude.{ℕ, List, []}
+use Rattle.std.specs.Prelude.{ℕ, List, [], Option}
 use Rattle.util.specs.Outcome.{Outcome}
 use Rattle.errors.specs.declared.Kind.{Kind}
 use Rattle.output.specs.Output.{write_outcome, write_output}
@@ -20,7 +20,6 @@ use Rattle.nitro.specs.declared.tex.TextureRecord.{TextureRecord}
 use Rattle.nitro.specs.declared.tex.PaletteRecord.{PaletteRecord}
 use Rattle.places.specs.Sources.{places_of, pal_place_of}
 use Rattle.rows.specs.Rows.{rows_of}
-use Rattle.places.specs.declared.PaletteChoice.{PaletteChoice}
 use Rattle.places.specs.declared.Place.{Place}
 use Rattle.places.specs.declared.Places.{Places}
 use Rattle.decode.specs.Pictures.{picture_of}
@@ -89,7 +88,7 @@ abbrev pub block_pal_place : BlockCall Place (Unit {0})
 block_pal_place = answering (λ b. pal_place_of b (run read_tex b))
 
 -- `places::locate`: where a picture's parts are.
-abbrev pub block_locate : (i : ℕ) (choice : PaletteChoice) → BlockCall Places (Unit {0})
+abbrev pub block_locate : (i : ℕ) (choice : Option ℕ) → BlockCall Places (Unit {0})
 block_locate i choice = answering (λ b. places_of i choice b (run read_tex b))
 
 -- `rows::rows`: how many numbers all rows of a kind have, and the output as the call leaves it.
@@ -97,11 +96,11 @@ abbrev pub block_rows : (kind : Kind) (output : List ℕ) → BlockCall ℕ (Lis
 block_rows kind output = writing (λ b. rows_of kind b (run read_tex b)) output
 
 -- `decode::picture::picture`: a picture's length, and the output as the call leaves it.
-abbrev pub block_picture : (i : ℕ) (choice : PaletteChoice) (output : List ℕ) → BlockCall ℕ (List ℕ)
+abbrev pub block_picture : (i : ℕ) (choice : Option ℕ) (output : List ℕ) → BlockCall ℕ (List ℕ)
 block_picture i choice output = writing (λ b. picture_of i choice (run read_tex b)) output
 
 -- `pam::pam`: the length of a picture's image, and the output as the call leaves it.
-abbrev pub block_pam : (i : ℕ) (choice : PaletteChoice) (output : List ℕ) → BlockCall ℕ (List ℕ)
+abbrev pub block_pam : (i : ℕ) (choice : Option ℕ) (output : List ℕ) → BlockCall ℕ (List ℕ)
 block_pam i choice output = writing (λ b. pam_of i choice (run read_tex b)) output
 
 -- All of them, under a law: for every number, kind, choice and output.
@@ -115,7 +114,7 @@ pub record BlockCalls (Law : (A B : Type 0) → BlockCall A B → Type 0) : Type
   pub texture_data2 : (i : ℕ) → Law _ _ (block_data2 i)
   pub pal_block_lem : Law _ _ block_pal_block
   pub pal_place : Law _ _ block_pal_place
-  pub locate : (i : ℕ) (choice : PaletteChoice) → Law _ _ (block_locate i choice)
+  pub locate : (i : ℕ) (choice : Option ℕ) → Law _ _ (block_locate i choice)
   pub rows : (kind : Kind) (output : List ℕ) → Law _ _ (block_rows kind output)
-  pub picture : (i : ℕ) (choice : PaletteChoice) (output : List ℕ) → Law _ _ (block_picture i choice output)
-  pub pam : (i : ℕ) (choice : PaletteChoice) (output : List ℕ) → Law _ _ (block_pam i choice output)
+  pub picture : (i : ℕ) (choice : Option ℕ) (output : List ℕ) → Law _ _ (block_picture i choice output)
+  pub pam : (i : ℕ) (choice : Option ℕ) (output : List ℕ) → Law _ _ (block_pam i choice output)

@@ -9,7 +9,6 @@ ghost use Rattle.text.specs.Put.{Room, Put};
 ghost use Rattle.lines.specs.Lines.{wrap_word, alpha_word, texture_line, palette_line};
 ghost use Rattle.lines.specs.Rest.{rest_from};
 
-use errors::Counted;
 use name::Name;
 use nds::texture_formats::Alpha;
 use nds::wrap::Wrap;
@@ -22,9 +21,9 @@ fn put_name(out: &mut [u8], at: usize, name: Name, end: &[u8]) -> usize
     ensures { Put (safe_text name.0 ++ end.now) out.old at out.new result }
 {
     match name.print_safe(&mut out[at..]) {
-        Counted::Count(len) => put(out, at + len, end),
+        Ok(len) => put(out, at + len, end),
         // The text has room, so it is never refused.
-        Counted::Refused(_) => at,
+        Err(_) => at,
     }
 }
 

@@ -6,7 +6,7 @@ ghost use Rattle.std.specs.Prelude.{◌≡◌, [], ◌∷◌, ◌++◌, ◌<◌,
 ghost use Rattle.io.specs.Counts.{IsPrefixLen};
 ghost use Rattle.util.specs.Outcome.{result as answered};
 ghost use Rattle.output.specs.Output.{Writes};
-ghost use Rattle.errors.specs.Refusal.{counted_outcome};
+ghost use Rattle.errors.specs.Refusal.{result_outcome};
 ghost use Rattle.scripts.specs.Script.{run};
 ghost use Rattle.reading.specs.Tex.{read_tex};
 ghost use Rattle.reading.specs.Layouts.{LaidOut};
@@ -16,11 +16,11 @@ ghost use Rattle.text.specs.Put.{Room, Put};
 ghost use Rattle.listing.specs.Listing as Listing;
 ghost use Rattle.listing.specs.Lists.{list_word, entry_line, list_of};
 
-use errors::{Counted, Kind, Refusal};
+use errors::{Kind, Refusal};
 use layout::{Layout, count_of};
 use lines::{put_palette, put_texture};
 use nitro::tex::{palette_by, texture_by};
-use reading::{Laid, lay_out};
+use reading::lay_out;
 use refused::put_refused;
 use text::{put, put_field, put_number};
 
@@ -92,11 +92,11 @@ fn put_listing(out: &mut [u8], at: usize, input: &[u8]) -> usize
         return put_refused(out, at, 13, 0);
     }
     match lay_out(input) {
-        Laid::Found(layout) => {
+        Ok(layout) => {
             let at = put_list(out, at, input, Kind::Texture, layout);
             put_list(out, at, input, Kind::Palette, layout)
         }
-        Laid::Refused(refusal) => put_refused(out, at, refusal.number(), refusal.returned()),
+        Err(refusal) => put_refused(out, at, refusal.number(), refusal.returned()),
     }
 }
 
@@ -109,18 +109,18 @@ fn buffer() -> [u8; MAX_LISTING]
 
 // Writes the listing of a block to the output, and answers with its length. A block that is refused is listed as one line. Where the listing
 // is longer than the output it is not written.
-pub fn list(input: &[u8], out: &mut [u8]) -> Counted
-    ensures { Writes (answered (Listing.listing_text input.now)) out.old (counted_outcome result) out.new }
+pub fn list(input: &[u8], out: &mut [u8]) -> Result<usize, Refusal>
+    ensures { Writes (answered (Listing.listing_text input.now)) out.old (result_outcome result) out.new }
 {
     if MAX_LISTING <= out.len() {
-        return Counted::Count(put_listing(out, 0, input));
+        return Ok(put_listing(out, 0, input));
     }
     let mut text = buffer();
     let len = put_listing(&mut text, 0, input);
     if out.len() < len {
-        return Counted::Refused(Refusal::Output);
+        return Err(Refusal::Output);
     }
-    Counted::Count(put(out, 0, &text[..len]))
+    Ok(put(out, 0, &text[..len]))
 }
 
 // The same, to an output that has room for every listing: the answer is never a refusal.
@@ -129,7 +129,7 @@ pub fn list_whole(input: &[u8], out: &mut [u8; MAX_LISTING]) -> usize
     ensures in_bounds { IsPrefixLen result out.new }
 {
     match list(input, out) {
-        Counted::Count(len) => len,
-        Counted::Refused(_) => 0,
+        Ok(len) => len,
+        Err(_) => 0,
     }
 }

@@ -4,15 +4,15 @@
 
 use cases::add_all;
 use cursor::part_at;
-use errors::Counted;
+use errors::Refusal;
 use listing::list;
 use report::{counted, number, text};
 
 // Shows the text that a call with this answer wrote, or nothing where it was declined.
-fn written(c: Counted, out: &[u8]) {
-    match c {
-        Counted::Count(n) => text(part_at(out, 0, n)),
-        Counted::Refused(_) => {}
+fn written(answer: Result<usize, Refusal>, out: &[u8]) {
+    match answer {
+        Ok(n) => text(part_at(out, 0, n)),
+        Err(_) => {}
     }
 }
 

@@ -7,12 +7,12 @@ ghost use mathlib.Core.List.{flat_map};
 ghost use Rattle.std.proofs.lemmas.List.Edits.{sets};
 ghost use Rattle.util.specs.Outcome.{result as answered};
 ghost use Rattle.output.specs.Output.{Writes};
-ghost use Rattle.errors.specs.Refusal.{counted_outcome};
+ghost use Rattle.errors.specs.Refusal.{result_outcome};
 ghost use Rattle.name.specs.Name as Text;
 
-use errors::{Counted, Refusal};
+use errors::Refusal;
 
-#[derive(Clone, Copy)]
+#[derive(Clone, Copy, Default)]
 pub struct Name(pub [u8; 16]);
 
 // A letter or digit as it is, and an underscore for any other byte.
@@ -68,27 +68,27 @@ impl Name {
     }
 
     // Writes the name as letters, digits and underscores, of which there is at least one.
-    pub fn print_safe(self, out: &mut [u8]) -> Counted
-        ensures { Writes (answered (Text.safe_text self.0)) out.old (counted_outcome result) out.new }
+    pub fn print_safe(self, out: &mut [u8]) -> Result<usize, Refusal>
+        ensures { Writes (answered (Text.safe_text self.0)) out.old (result_outcome result) out.new }
     {
         let bytes = self.0;
         let n = self.trimmed_len();
         if n == 0 {
             if out.len() == 0 {
-                return Counted::Refused(Refusal::Output);
+                return Err(Refusal::Output);
             }
             out[0] = b'_';
-            return Counted::Count(1);
+            return Ok(1);
         }
         if out.len() < n {
-            return Counted::Refused(Refusal::Output);
+            return Err(Refusal::Output);
         }
         let mut i = 0;
         while i < n {
             out[i] = safe_byte(bytes[i]);
             i += 1;
         }
-        Counted::Count(n)
+        Ok(n)
     }
 
     // The number of bytes that display writes for the first n bytes.
@@ -107,13 +107,13 @@ impl Name {
     }
 
     // Writes the name in UTF-8, each byte as the character of that number, with a period for each byte below 20 hex.
-    pub fn display(self, out: &mut [u8]) -> Counted
-        ensures { Writes (answered (Text.display_text self.0)) out.old (counted_outcome result) out.new }
+    pub fn display(self, out: &mut [u8]) -> Result<usize, Refusal>
+        ensures { Writes (answered (Text.display_text self.0)) out.old (result_outcome result) out.new }
     {
         let bytes = self.0;
         let n = self.trimmed_len();
         if out.len() < self.display_len(n) {
-            return Counted::Refused(Refusal::Output);
+            return Err(Refusal::Output);
         }
         let mut i = 0;
         let mut end = 0;
@@ -121,6 +121,6 @@ impl Name {
             end = put_display(out, end, bytes[i]);
             i += 1;
         }
-        Counted::Count(end)
+        Ok(end)
     }
 }

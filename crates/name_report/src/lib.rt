@@ -3,13 +3,13 @@
 #![tactic(auto)]
 
 use block_report::counted;
-use errors::Counted;
+use errors::Refusal;
 use name::Name;
 use report::text;
 
 // Prints what a name call answered, and all of its output.
-fn written(c: Counted, out: &[u8]) {
-    counted(c);
+fn written(answer: Result<usize, Refusal>, out: &[u8]) {
+    counted(answer);
     text(b" ");
     text(out);
 }

@@ -8,9 +8,10 @@ use crate::texture_params::TextureParams;
 #[derive(Clone, Copy)]
 pub struct TextureFormat(pub u8);
 
-#[derive(Clone, Copy)]
+#[derive(Clone, Copy, Default)]
 pub enum Alpha {
     // Every texel is solid.
+    #[default]
     Opaque,
     // A texel is solid or clear.
     Transparent,

@@ -2,8 +2,9 @@
 ghost use Rattle.std.specs.Prelude.{◌≡◌};
 ghost use Rattle.nds.specs.Wrap.{wrap_of};
 
-#[derive(Clone, Copy)]
+#[derive(Clone, Copy, Default)]
 pub enum Wrap {
+    #[default]
     Clamp,
     Repeat,
     Mirror,

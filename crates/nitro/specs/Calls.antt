@@ -4,32 +4,21 @@ use Rattle.util.specs.Outcome.{Outcome, result, refusal}
 use Rattle.nds.specs.Params.{repeat_s, mirror_s, repeat_t, mirror_t}
 use Rattle.nds.specs.Formats.{alpha}
 use Rattle.nds.specs.Wrap.{wrap_of}
-use Rattle.errors.specs.Refusal.{absent_number, refusal_outcome}
+use Rattle.errors.specs.Refusal.{absent_number}
 use Rattle.errors.specs.declared.Kind.{Kind}
 use Rattle.errors.specs.declared.Kind.TheVariants as kind
-use Rattle.errors.specs.declared.Status.{Status}
-use Rattle.errors.specs.declared.Status.TheVariants.{Done, Refused}
 use Rattle.scripts.specs.Script.{Answer, outcome_of}
 use Rattle.reading.specs.Tex.{Texture, Palette, Contents}
-use Rattle.nitro.specs.declared.tex.Reading.{Reading}
-use Rattle.nitro.specs.declared.tex.Reading.TheVariants as reading
+pub use Rattle.nitro.specs.declared.tex.Counts.{Counts}
 use Rattle.nitro.specs.declared.tex.TextureRecord.{TextureRecord}
 use Rattle.nitro.specs.declared.tex.PaletteRecord.{PaletteRecord}
 
 -- 01, "When a call is declined": "A reading gives both counts".
-pub record Counts : Type 0 where
-  pub textures : ℕ
-  pub palettes : ℕ
-
 abbrev pub counts_of : Contents → Counts
 counts_of c = record { textures = length c.textures; palettes = length c.palettes }
 
 unfoldable pub reading_of : Answer Contents → Outcome Counts
 reading_of a = outcome_of a λ c. result (counts_of c)
-
-abbrev pub reading_outcome : Reading → Outcome Counts
-reading_outcome (reading.Counts t p) = result (record { textures = t; palettes = p })
-reading_outcome (reading.Refused r) = refusal_outcome r
 
 -- Entry n of a list, as `f` gives it. "texture number not below its count", "palette number not below its count": by the list's kind.
 unfoldable pub entry : {A B : Type 0} → Kind → (A → B) → List A → (n : ℕ) → Outcome B
@@ -63,7 +52,7 @@ texture_of n a = texture_entry (λ t. texture_record t.name t.word) n a
 unfoldable pub palette_of : (n : ℕ) → Answer Contents → Outcome PaletteRecord
 palette_of n a = palette_entry (λ p. palette_record p.name p.off) n a
 
--- The records that stand beside a refusal.
+-- The records of a name of zeros, with the word 0 and the offset 0.
 abbrev pub no_name : List ℕ
 no_name = replicate 16 0
 
@@ -73,18 +62,10 @@ no_texture = texture_record no_name 0
 abbrev pub no_palette : PaletteRecord
 no_palette = palette_record no_name 0
 
--- A status with a record beside it: what the two answer, and the record, which is `blank` where the answer is a refusal.
-abbrev pub record_outcome : {A : Type 0} → Status → A → Outcome A
-record_outcome Done a = result a
-record_outcome (Refused r) a = refusal_outcome r
-
+-- What an answer holds, or `blank` where it is a refusal.
 abbrev pub value_or : {A : Type 0} → (blank : A) → Outcome A → A
 value_or blank (result a) = a
 value_or blank (refusal number returned) = blank
-
-pub record Answers {A : Type 0} (blank : A) (answer : Outcome A) (status : Status) (beside : A) : Type 0 where
-  pub outcome : record_outcome status beside ≡ answer
-  pub value : beside ≡ value_or blank answer
 
 -- "A declined data part is empty, and the record call for that number names the refusal."
 abbrev pub part_of : Outcome (List ℕ) → List ℕ

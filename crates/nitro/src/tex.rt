@@ -6,28 +6,29 @@ ghost use Rattle.std.specs.Prelude.{◌≡◌, ◌<◌};
 ghost use Rattle.util.specs.Outcome.{result as answered};
 ghost use Rattle.scripts.specs.Script.{run};
 ghost use Rattle.reading.specs.Tex as Tex;
-ghost use Rattle.reading.specs.Layouts.{laid_outcome, LaidOut};
+ghost use Rattle.errors.specs.Refusal.{result_outcome};
+ghost use Rattle.reading.specs.Layouts.{LaidOut};
 ghost use Rattle.nitro.specs.Calls as Calls;
 ghost use Rattle.nitro.specs.ByLayout as ByLayout;
 
 use cursor::part_at;
-use errors::{Kind, Refusal, Status};
+use errors::{Kind, Refusal};
 use info_block::entry_name;
 use layout::{Layout, count_of, data1_pos, data2_pos, off_at, pal_block_len, params_at};
 use name::Name;
 use nds::texture_formats::Alpha;
 use nds::texture_params::TextureParams;
 use nds::wrap::Wrap;
-use reading::{Laid, lay_out};
+use reading::lay_out;
 
+// How many textures and palettes a block has.
 #[derive(Clone, Copy)]
-pub enum Reading {
-    // How many textures and palettes the block has.
-    Counts(usize, usize),
-    Refused(Refusal),
+pub struct Counts {
+    pub textures: usize,
+    pub palettes: usize,
 }
 
-#[derive(Clone, Copy)]
+#[derive(Clone, Copy, Default)]
 pub struct TextureRecord {
     pub name: Name,
     pub params: TextureParams,
@@ -36,40 +37,22 @@ pub struct TextureRecord {
     pub alpha: Alpha,
 }
 
-#[derive(Clone, Copy)]
+#[derive(Clone, Copy, Default)]
 pub struct PaletteRecord {
     pub name: Name,
     // In bytes, from the palette block's start.
     pub off: u32,
 }
 
-// Where the status is a refusal, the record beside it has a name of zeros and the word 0.
-#[derive(Clone, Copy)]
-pub struct TextureAnswer {
-    pub status: Status,
-    pub texture: TextureRecord,
-}
-
-// Where the status is a refusal, the record beside it has a name of zeros and the offset 0.
-#[derive(Clone, Copy)]
-pub struct PaletteAnswer {
-    pub status: Status,
-    pub palette: PaletteRecord,
-}
-
 // The layout of a block whose list of the kind has an entry n.
-fn find(block: &[u8], kind: Kind, n: usize) -> Laid
-    ensures { laid_outcome result ≡ ByLayout.layout_with kind n block.now (run Tex.read_tex block.now) }
+fn find(block: &[u8], kind: Kind, n: usize) -> Result<Layout, Refusal>
+    ensures { result_outcome result ≡ ByLayout.layout_with kind n block.now (run Tex.read_tex block.now) }
 {
-    match lay_out(block) {
-        Laid::Refused(refusal) => Laid::Refused(refusal),
-        Laid::Found(layout) => {
-            if n < count_of(kind, layout) {
-                Laid::Found(layout)
-            } else {
-                Laid::Refused(Refusal::Number(kind))
-            }
-        }
+    let layout = lay_out(block)?;
+    if n < count_of(kind, layout) {
+        Ok(layout)
+    } else {
+        Err(Refusal::Number(kind))
     }
 }
 
@@ -87,13 +70,14 @@ fn texture_record(name: Name, params: TextureParams) -> TextureRecord
 }
 
 // Reads the block: how many textures and palettes it has.
-pub fn read_tex(block: &[u8]) -> Reading
-    ensures { Calls.reading_outcome result ≡ Calls.reading_of (run Tex.read_tex block.now) }
+pub fn read_tex(block: &[u8]) -> Result<Counts, Refusal>
+    ensures { result_outcome result ≡ Calls.reading_of (run Tex.read_tex block.now) }
 {
-    match lay_out(block) {
-        Laid::Found(layout) => Reading::Counts(layout.textures, layout.palettes),
-        Laid::Refused(refusal) => Reading::Refused(refusal),
-    }
+    let layout = lay_out(block)?;
+    Ok(Counts {
+        textures: layout.textures,
+        palettes: layout.palettes,
+    })
 }
 
 // The record of texture n, by the block's layout.
@@ -110,19 +94,11 @@ pub fn texture_by(block: &[u8], layout: Layout, n: usize) -> TextureRecord
 }
 
 // The record of texture n.
-pub fn texture(block: &[u8], n: usize) -> TextureAnswer
-    ensures { Calls.Answers Calls.no_texture (Calls.texture_of n (run Tex.read_tex block.now)) result.status result.texture }
+pub fn texture(block: &[u8], n: usize) -> Result<TextureRecord, Refusal>
+    ensures { result_outcome result ≡ Calls.texture_of n (run Tex.read_tex block.now) }
 {
-    match find(block, Kind::Texture, n) {
-        Laid::Found(layout) => TextureAnswer {
-            status: Status::Done,
-            texture: texture_by(block, layout, n),
-        },
-        Laid::Refused(refusal) => TextureAnswer {
-            status: Status::Refused(refusal),
-            texture: texture_record(Name([0; 16]), TextureParams(0)),
-        },
-    }
+    let layout = find(block, Kind::Texture, n)?;
+    Ok(texture_by(block, layout, n))
 }
 
 // The record of palette n, by the block's layout.
@@ -139,22 +115,11 @@ pub fn palette_by(block: &[u8], layout: Layout, n: usize) -> PaletteRecord
 }
 
 // The record of palette n.
-pub fn palette(block: &[u8], n: usize) -> PaletteAnswer
-    ensures { Calls.Answers Calls.no_palette (Calls.palette_of n (run Tex.read_tex block.now)) result.status result.palette }
+pub fn palette(block: &[u8], n: usize) -> Result<PaletteRecord, Refusal>
+    ensures { result_outcome result ≡ Calls.palette_of n (run Tex.read_tex block.now) }
 {
-    match find(block, Kind::Palette, n) {
-        Laid::Found(layout) => PaletteAnswer {
-            status: Status::Done,
-            palette: palette_by(block, layout, n),
-        },
-        Laid::Refused(refusal) => PaletteAnswer {
-            status: Status::Refused(refusal),
-            palette: PaletteRecord {
-                name: Name([0; 16]),
-                off: 0,
-            },
-        },
-    }
+    let layout = find(block, Kind::Palette, n)?;
+    Ok(palette_by(block, layout, n))
 }
 
 // The data of texture n, or the first data of a block-compressed texture.
@@ -162,12 +127,12 @@ pub fn texture_data1(block: &[u8], n: usize) -> &[u8]
     ensures { result.now ≡ Calls.data1_of n (run Tex.read_tex block.now) }
 {
     match find(block, Kind::Texture, n) {
-        Laid::Found(layout) => {
+        Ok(layout) => {
             let header = layout.header;
             let params = params_at(block, header.texture_off as usize, layout.textures, n);
             part_at(block, data1_pos(header, params), params.byte_len())
         }
-        Laid::Refused(_) => &block[..0],
+        Err(_) => &block[..0],
     }
 }
 
@@ -176,12 +141,12 @@ pub fn texture_data2(block: &[u8], n: usize) -> &[u8]
     ensures { result.now ≡ Calls.data2_of n (run Tex.read_tex block.now) }
 {
     match find(block, Kind::Texture, n) {
-        Laid::Found(layout) => {
+        Ok(layout) => {
             let header = layout.header;
             let params = params_at(block, header.texture_off as usize, layout.textures, n);
             part_at(block, data2_pos(header, params), params.byte_len2())
         }
-        Laid::Refused(_) => &block[..0],
+        Err(_) => &block[..0],
     }
 }
 
@@ -190,10 +155,10 @@ pub fn pal_block(block: &[u8]) -> &[u8]
     ensures { result.now ≡ Calls.pal_block_of (run Tex.read_tex block.now) }
 {
     match lay_out(block) {
-        Laid::Found(layout) => {
+        Ok(layout) => {
             let header = layout.header;
             part_at(block, header.pal_block_off as usize, pal_block_len(header))
         }
-        Laid::Refused(_) => &block[..0],
+        Err(_) => &block[..0],
     }
 }

@@ -1,4 +1,5 @@
 -- No image is longer than 4,194,375 bytes: a header of 71, and 4 for each of 1024 times 1024 texels. Assumes nothing.
+use Rattle.std.specs.Prelude.{Option}
 use Prim.Native.Nat.{ℕ, ◌≤◌}
 use mathlib.Core.Path.{◌≡◌, refl, sym, ◌∙◌}
 use mathlib.Core.List.{List, ◌++◌}
@@ -10,7 +11,6 @@ use Rattle.nds.proofs.Sizes.{width_le, height_le}
 use Rattle.scripts.specs.Script.{Answer}
 use Rattle.reading.specs.Tex.{Contents}
 use Rattle.places.specs.Sources.{Sources, sources_of}
-use Rattle.places.specs.declared.PaletteChoice.{PaletteChoice}
 use Rattle.decode.specs.Pictures.{texel_count, picture_of}
 use Rattle.decode.proofs.Pictures.{picture_found}
 use Rattle.pam.specs.Pam.{header_text, pam_of}
@@ -20,7 +20,7 @@ use Rattle.pam.proofs.Images.{decoded_length}
 texels_few : (w : ℕ) → texel_count w ≤ 1048576
 texels_few w = mul-le-mul {n₂ = 1024} {m₂ = 1024} (width_le w) (height_le w)
 
-module _ (n : ℕ) (choice : PaletteChoice) (a : Answer Contents) where
+module _ (n : ℕ) (choice : Option ℕ) (a : Answer Contents) where
   pub pam_fits : {image : List ℕ} → pam_of n choice a ≡ result image → length image ≤ 4194375
   unfolding pam_of ◌>>=◌
   pam_fits {image} e = go (sources_of n choice a) refl

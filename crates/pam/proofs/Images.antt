@@ -1,4 +1,5 @@
 -- The laws of an image: a picture that is written behind its header. Assumes nothing.
+use Rattle.std.specs.Prelude.{Option}
 use Prim.Native.Nat.{ℕ, ◌+◌, ◌-◌, ◌≤◌, ◌<◌, min}
 use mathlib.Core.Path.{◌≡◌, refl, sym, ◌∙◌, subst, ap}
 use mathlib.Core.Bool.{Bool, true, false}
@@ -21,7 +22,6 @@ use Rattle.output.proofs.Outputs.{writes_fits, writes_refusal, writes_short, ref
 use Rattle.scripts.specs.Script.{Answer}
 use Rattle.reading.specs.Tex.{Contents}
 use Rattle.places.specs.Sources.{Sources, sources_of}
-use Rattle.places.specs.declared.PaletteChoice.{PaletteChoice}
 use Rattle.places.proofs.Sources.{passed_on}
 use Rattle.decode.specs.Pictures.{texel_count, picture_length, picture_bytes, ready, decoded, picture_of}
 use Rattle.decode.proofs.Pictures.{length_picture, picture_found}
@@ -34,7 +34,7 @@ unfoldable pub headed : (header : List ℕ) → Outcome (List ℕ) → Outcome (
 headed header made = made >>= λ picture. result (header ++ picture)
 
 -- an image, by what was located
-module _ (n : ℕ) (choice : PaletteChoice) (a : Answer Contents) where
+module _ (n : ℕ) (choice : Option ℕ) (a : Answer Contents) where
   pub image_refused : (r : Refusal) → refusal_outcome r ≡ sources_of n choice a → refusal_outcome r ≡ pam_of n choice a
   unfolding pam_of
   image_refused r e = passed_on r (sources_of n choice a) _ e
@@ -57,7 +57,7 @@ texels_some : (w : ℕ) → 0 < texel_count w
 unfolding width height
 texels_some w = mul-pos (mul-pos {m = 8} (lit< tt) (pow_pos _)) (mul-pos {m = 8} (lit< tt) (pow_pos _))
 
-pub picture_some : (n : ℕ) (choice : PaletteChoice) (a : Answer Contents) {s : Sources} {picture : List ℕ} → result s ≡ sources_of n choice a
+pub picture_some : (n : ℕ) (choice : Option ℕ) (a : Answer Contents) {s : Sources} {picture : List ℕ} → result s ≡ sources_of n choice a
     → picture_of n choice a ≡ result picture → 0 < length picture
 picture_some n choice a {s} is e =
     omega (arith, decoded_length s (sym (picture_found n choice a is) ∙ e), texels_some s.word)

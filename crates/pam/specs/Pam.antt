@@ -1,11 +1,10 @@
 -- Pictures as PAM images: Netpbm's pam(5). Assumes nothing.
-use Rattle.std.specs.Prelude.{ℕ, List, [], ◌∷◌, ◌++◌}
+use Rattle.std.specs.Prelude.{ℕ, List, [], ◌∷◌, ◌++◌, Option}
 use Rattle.util.specs.Outcome.{Outcome, result, ◌>>=◌}
 use Rattle.nds.specs.Params.{width, height}
 use Rattle.scripts.specs.Script.{Answer}
 use Rattle.reading.specs.Tex.{Contents}
 use Rattle.places.specs.Sources.{sources_of}
-use Rattle.places.specs.declared.PaletteChoice.{PaletteChoice}
 use Rattle.decode.specs.Pictures.{picture_of}
 use Rattle.text.specs.Text.{ascii, decimal, line}
 
@@ -23,7 +22,7 @@ header_text w =
 
 -- "Each PAM image consists of a header followed immediately by a raster", which is "each row of the image, in order from top to bottom", as
 -- a picture's bytes are. The image is that of texture n with the chosen palette. What is refused, and in which order, is the picture's.
-unfoldable pub pam_of : (n : ℕ) → PaletteChoice → Answer Contents → Outcome (List ℕ)
+unfoldable pub pam_of : (n : ℕ) → Option ℕ → Answer Contents → Outcome (List ℕ)
 pam_of n choice a = do
   sources ← sources_of n choice a
   picture ← picture_of n choice a

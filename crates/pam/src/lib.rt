@@ -4,7 +4,7 @@
 
 ghost use Rattle.std.specs.Prelude.{min, ◌≡◌, length};
 ghost use Rattle.output.specs.Output.{Writes};
-ghost use Rattle.errors.specs.Refusal.{counted_outcome};
+ghost use Rattle.errors.specs.Refusal.{result_outcome};
 ghost use Rattle.scripts.specs.Script.{run};
 ghost use Rattle.reading.specs.Tex.{read_tex};
 ghost use Rattle.text.specs.Text.{decimal};
@@ -12,9 +12,9 @@ ghost use Rattle.text.specs.Put.{Room, Put};
 ghost use Rattle.pam.specs.Pam as Pam;
 
 use decode::picture::picture_at;
-use errors::Counted;
+use errors::Refusal;
 use nds::texture_params::TextureParams;
-use places::{Located, PaletteChoice, locate};
+use places::locate;
 use text::{put, put_number};
 
 // The header of a picture of the word's size.
@@ -59,21 +59,12 @@ fn least(a: usize, b: usize) -> usize
 
 // Writes the picture of texture n with the chosen palette to the output as a PAM image, and returns the image's length in bytes. The picture
 // is decoded to its place behind the header. An output that has no room for the header has none for a picture behind it.
-pub fn pam(block: &[u8], n: usize, choice: PaletteChoice, out: &mut [u8]) -> Counted
-    ensures { Writes (Pam.pam_of n choice (run read_tex block.now)) out.old (counted_outcome result) out.new }
+pub fn pam(block: &[u8], n: usize, choice: Option<usize>, out: &mut [u8]) -> Result<usize, Refusal>
+    ensures { Writes (Pam.pam_of n choice (run read_tex block.now)) out.old (result_outcome result) out.new }
 {
-    match locate(block, n, choice) {
-        Located::Refused(refusal) => Counted::Refused(refusal),
-        Located::Found(places) => {
-            let params = places.params;
-            let at = least(header_len(params), out.len());
-            match picture_at(block, places, &mut out[at..]) {
-                Counted::Refused(refusal) => Counted::Refused(refusal),
-                Counted::Count(len) => {
-                    let whole = put_header(out, 0, params) + len;
-                    Counted::Count(whole)
-                }
-            }
-        }
-    }
+    let places = locate(block, n, choice)?;
+    let params = places.params;
+    let at = least(header_len(params), out.len());
+    let len = picture_at(block, places, &mut out[at..])?;
+    Ok(put_header(out, 0, params) + len)
 }

@@ -23,14 +23,14 @@ use cases::{field, fill, named};
 use cursor::part_at;
 use decode::decode_texture::decode_texture;
 use decode::picture::picture;
-use errors::Counted;
+use errors::Refusal;
 use nds::texture_params::TextureParams;
 use picture_report::written;
 use report::{STDIN_FILENO, text};
-use told::{choice_of, off_of};
+use told::choice_of;
 
 // What the direct decoding that the case asks for answers.
-fn direct(input: &[u8], case: &[u8], out: &mut [u8]) -> Counted {
+fn direct(input: &[u8], case: &[u8], out: &mut [u8]) -> Result<usize, Refusal> {
     let params = TextureParams(field(case, 12));
     let data1 = named(input, case, 28);
     let data2 = named(input, case, 36);
@@ -39,14 +39,14 @@ fn direct(input: &[u8], case: &[u8], out: &mut [u8]) -> Counted {
         params,
         data1,
         data2,
-        off_of(field(case, 16), field(case, 20)),
+        choice_of(field(case, 16), field(case, 20)),
         pal,
         out,
     )
 }
 
 // What the picture call that the case asks for answers.
-fn from_block(input: &[u8], case: &[u8], out: &mut [u8]) -> Counted {
+fn from_block(input: &[u8], case: &[u8], out: &mut [u8]) -> Result<usize, Refusal> {
     let block = named(input, case, 28);
     picture(
         block,
@@ -57,7 +57,7 @@ fn from_block(input: &[u8], case: &[u8], out: &mut [u8]) -> Counted {
 }
 
 // What the call that the case asks for answers.
-fn answer(input: &[u8], case: &[u8], out: &mut [u8]) -> Counted {
+fn answer(input: &[u8], case: &[u8], out: &mut [u8]) -> Result<usize, Refusal> {
     if field(case, 0) == 0 {
         direct(input, case, out)
     } else {

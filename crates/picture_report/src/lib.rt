@@ -4,7 +4,7 @@
 
 use cases::wide;
 use cursor::part_at;
-use errors::Counted;
+use errors::Refusal;
 use report::{number, text};
 
 // The sum with one byte more.
@@ -47,15 +47,15 @@ fn texels(out: &[u8]) {
 }
 
 // Prints an answer, the output's checksum, and of a picture some texels.
-pub fn written(c: Counted, out: &[u8]) {
-    match c {
-        Counted::Count(n) => {
+pub fn written(answer: Result<usize, Refusal>, out: &[u8]) {
+    match answer {
+        Ok(n) => {
             text(b" ok");
             number(n as u64);
             number(checksum(out));
             texels(out);
         }
-        Counted::Refused(refusal) => {
+        Err(refusal) => {
             text(b" refused");
             number(refusal.number() as u64);
             number(refusal.returned() as u64);

@@ -1,4 +1,5 @@
 -- The laws of what a picture is made from, and of where that is. Assumes nothing.
+use Rattle.std.specs.Prelude.{Option, None, Some}
 use Prim.Native.Nat.{ℕ, ◌+◌, ◌≤◌, ◌<◌}
 use mathlib.Core.Path.{◌≡◌, refl, sym, ap, ◌∙◌, subst}
 use mathlib.Core.Bool.{Bool, true, false}
@@ -23,10 +24,6 @@ use Rattle.nitro.specs.ByLayout.{layout_with}
 use Rattle.places.specs.ByLayout.{has_choice, chosen_at, places_by}
 use Rattle.layout.specs.declared.Header.{Header}
 use Rattle.layout.specs.declared.Layout.{Layout}
-use Rattle.places.specs.declared.PaletteChoice.{PaletteChoice}
-use Rattle.places.specs.declared.PaletteChoice.TheVariants as choices
-use Rattle.places.specs.declared.PaletteOff.{PaletteOff}
-use Rattle.places.specs.declared.PaletteOff.TheVariants as offs
 use Rattle.places.specs.declared.Place.{Place}
 use Rattle.places.specs.declared.Places.{Places}
 use Rattle.scripts.proofs.Runs.{whole_outcome, ended}
@@ -42,21 +39,21 @@ placed_part b e =
 
 -- the chosen palette of a finished reading, by the layout
 module _ (b : List ℕ) {c : Contents} (is : run read_tex b ≡ whole c) where
-  chosen_there : (choice : PaletteChoice) → has_choice (layout_of b c) choice ≡ true
+  chosen_there : (choice : Option ℕ) → has_choice (layout_of b c) choice ≡ true
       → chosen_of choice c.palettes ≡ result (chosen_at b (layout_of b c) choice)
   unfolding chosen_of
-  chosen_there choices.None e = refl
-  chosen_there (choices.Number k) e =
+  chosen_there None e = refl
+  chosen_there (Some k) e =
       let below = ltb-true k (length c.palettes) e in
-      entry_in kinds.Palette (λ p. offs.At p.off) c.palettes k blank_palette below
-      ∙ ap (λ (p : Tex.Palette). result (offs.At p.off))
+      entry_in kinds.Palette (λ p. Some p.off) c.palettes k blank_palette below
+      ∙ ap (λ (p : Tex.Palette). result (Some p.off))
       ((palettes_listed (header_of (take 60 b)) b (finished b is).palettes).at k blank_palette below)
 
-  chosen_absent : (choice : PaletteChoice) → has_choice (layout_of b c) choice ≡ false
+  chosen_absent : (choice : Option ℕ) → has_choice (layout_of b c) choice ≡ false
       → chosen_of choice c.palettes ≡ refusal (absent_number kinds.Palette) 0
   unfolding chosen_of
-  chosen_absent choices.None e = let z : ◌≡◌ {A = ℕ} 0 1 = cc in absurd (omega arith)
-  chosen_absent (choices.Number k) e = entry_out kinds.Palette _ c.palettes k (ltb-false k (length c.palettes) e)
+  chosen_absent None e = let z : ◌≡◌ {A = ℕ} 0 1 = cc in absurd (omega arith)
+  chosen_absent (Some k) e = entry_out kinds.Palette _ c.palettes k (ltb-false k (length c.palettes) e)
 
 -- a refusal is passed on, whatever comes next
 pub passed_on : {A B : Type 0} (r : Refusal) (o : Outcome A) (f : A → Outcome B) → refusal_outcome r ≡ o → refusal_outcome r ≡ (o >>= f)
@@ -65,14 +62,14 @@ passed_on r (result a) f e = absurd (refusal_not r e)
 passed_on r (refusal k v) f e = refusal_any r e
 
 -- what a picture of texture n is made from
-module _ (n : ℕ) (choice : PaletteChoice) (b : List ℕ) {c : Contents} (is : run read_tex b ≡ whole c) (below : n < length c.textures) where
+module _ (n : ℕ) (choice : Option ℕ) (b : List ℕ) {c : Contents} (is : run read_tex b ≡ whole c) (below : n < length c.textures) where
   abbrev this : Tex.Texture
   this = get_or c.textures n blank_texture
 
   texture_in : entry kinds.Texture (λ (t : Tex.Texture). t) c.textures n ≡ result this
   texture_in = entry_in kinds.Texture (λ (t : Tex.Texture). t) c.textures n blank_texture below
 
-  sources_by : {o : Outcome PaletteOff} → chosen_of choice c.palettes ≡ o
+  sources_by : {o : Outcome (Option ℕ)} → chosen_of choice c.palettes ≡ o
       → sources_of n choice (run read_tex b)
       ≡ (o >>= λ p. result (record { word = this.word; parts = this.parts; palette = p; pal_block = c.pal_block }))
   unfolding sources_of outcome_of ◌>>=◌
@@ -94,7 +91,7 @@ module _ (n : ℕ) (choice : PaletteChoice) (b : List ℕ) {c : Contents} (is : 
   places_absent e = rw (sources_by (chosen_absent b is choice e))
 
   -- and by the places
-  parts_at : (p : PaletteOff)
+  parts_at : (p : Option ℕ)
       → sources_at b (places_at header this.word p)
       ≡ record { word = this.word; parts = this.parts; palette = p; pal_block = c.pal_block }
   parts_at p =
@@ -106,19 +103,19 @@ module _ (n : ℕ) (choice : PaletteChoice) (b : List ℕ) {c : Contents} (is : 
   unfolding places_of ◌>>=◌
   sources_at_lem {places} e = go (chosen_of choice c.palettes) refl
     where
-      go : (o : Outcome PaletteOff) → chosen_of choice c.palettes ≡ o → result (sources_at b places) ≡ sources_of n choice (run read_tex b)
+      go : (o : Outcome (Option ℕ)) → chosen_of choice c.palettes ≡ o → result (sources_at b places) ≡ sources_of n choice (run read_tex b)
       go (refusal k v) q = let z : ◌≡◌ {A = ℕ} 0 1 = cc (rw (sources_by q) at e) in absurd (omega arith)
       go (result p) q =
           let same : places ≡ places_at header this.word p = cc (rw (sources_by q) at e) in
           rw (same, sources_by q, parts_at p)
 
 -- the same by the layout that the code has
-pub record SourcesFound (n : ℕ) (choice : PaletteChoice) (b : List ℕ) (l : Layout) : Type 0 where
+pub record SourcesFound (n : ℕ) (choice : Option ℕ) (b : List ℕ) (l : Layout) : Type 0 where
   pub within : l.header.palette_off + list_length kinds.Palette l.palettes ≤ length b
   pub there : has_choice l choice ≡ true → result (places_by b l n (chosen_at b l choice)) ≡ places_of n choice b (run read_tex b)
   pub absent : has_choice l choice ≡ false → refusal (absent_number kinds.Palette) 0 ≡ places_of n choice b (run read_tex b)
 
-pub sources_found : (n : ℕ) (choice : PaletteChoice) (b : List ℕ) {l : Layout}
+pub sources_found : (n : ℕ) (choice : Option ℕ) (b : List ℕ) {l : Layout}
     → result l ≡ layout_with kinds.Texture n b (run read_tex b) → SourcesFound n choice b l
 sources_found n choice b e =
     let o = found kinds.Texture n b (run read_tex b) e in
@@ -129,7 +126,7 @@ sources_found n choice b e =
       absent = places_absent n choice b o.is o.below;
     })
 
-no_texture_sources : (n : ℕ) (choice : PaletteChoice) (b : List ℕ) (r : Refusal) (a : Answer Contents)
+no_texture_sources : (n : ℕ) (choice : Option ℕ) (b : List ℕ) (r : Refusal) (a : Answer Contents)
     → refusal_outcome r ≡ layout_with kinds.Texture n b a → refusal_outcome r ≡ sources_of n choice a
 unfolding sources_of layout_with outcome_of
 no_texture_sources n choice b r (short w) e = refusal_any r e
@@ -137,13 +134,13 @@ no_texture_sources n choice b r (fault w) e = refusal_any r e
 no_texture_sources n choice b r (whole c) e =
     passed_on r _ _ (no_entry kinds.Texture n b (λ c. c.textures) (λ t. t) (λ c. refl) r (whole c) e)
 
-pub no_sources : (n : ℕ) (choice : PaletteChoice) (b : List ℕ) (r : Refusal) (a : Answer Contents)
+pub no_sources : (n : ℕ) (choice : Option ℕ) (b : List ℕ) (r : Refusal) (a : Answer Contents)
     → refusal_outcome r ≡ layout_with kinds.Texture n b a → refusal_outcome r ≡ places_of n choice b a
 unfolding places_of
 no_sources n choice b r a e = passed_on r (sources_of n choice a) _ (no_texture_sources n choice b r a e)
 
 -- what the parts at the places that were found are
-pub located_sources : (n : ℕ) (choice : PaletteChoice) (b : List ℕ) {places : Places}
+pub located_sources : (n : ℕ) (choice : Option ℕ) (b : List ℕ) {places : Places}
     → result places ≡ places_of n choice b (run read_tex b) → result (sources_at b places) ≡ sources_of n choice (run read_tex b)
 unfolding places_of sources_of outcome_of ◌>>=◌
 located_sources n choice b {places} e = go (run read_tex b) refl
@@ -161,7 +158,7 @@ located_sources n choice b {places} e = go (run read_tex b) refl
         pick false h = no (rw (q, entry_out kinds.Texture (λ (t : Tex.Texture). t) c.textures n (ltb-false n (length c.textures) h)) at e)
 
 -- and the data among them
-pub sources_data : (n : ℕ) (choice : PaletteChoice) (a : Answer Contents) {s : Sources} → result s ≡ sources_of n choice a
+pub sources_data : (n : ℕ) (choice : Option ℕ) (a : Answer Contents) {s : Sources} → result s ≡ sources_of n choice a
     → (s.parts.data1 ≡ data1_of n a) × (s.parts.data2 ≡ data2_of n a)
 unfolding sources_of data1_of data2_of texture_entry outcome_of ◌>>=◌
 sources_data n choice a {s} e = go a refl
@@ -180,7 +177,7 @@ sources_data n choice a {s} e = go a refl
             below : n < length c.textures
             below = ltb-true n (length c.textures) h
 
-            chosen : (o : Outcome PaletteOff) → chosen_of choice c.palettes ≡ o
+            chosen : (o : Outcome (Option ℕ)) → chosen_of choice c.palettes ≡ o
                 → (s.parts.data1 ≡ data1_of n a) × (s.parts.data2 ≡ data2_of n a)
             chosen (refusal k v) p = no (rw (q, entry_in kinds.Texture (λ (t : Tex.Texture). t) c.textures n blank_texture below, p) at e)
             chosen (result o) p =
@@ -191,7 +188,7 @@ sources_data n choice a {s} e = go a refl
                 )
         pick false h = no (rw (q, entry_out kinds.Texture (λ (t : Tex.Texture). t) c.textures n (ltb-false n (length c.textures) h)) at e)
 
-pub located_refused : (n : ℕ) (choice : PaletteChoice) (b : List ℕ) (r : Refusal) (a : Answer Contents)
+pub located_refused : (n : ℕ) (choice : Option ℕ) (b : List ℕ) (r : Refusal) (a : Answer Contents)
     → refusal_outcome r ≡ places_of n choice b a → refusal_outcome r ≡ sources_of n choice a
 unfolding places_of ◌>>=◌
 located_refused n choice b r a e = go (sources_of n choice a) refl

@@ -1,40 +1,32 @@
 -- What a picture is made from, and where in the block that is. Assumes nothing.
-use Rattle.std.specs.Prelude.{ℕ, ◌*◌, List, take}
+use Rattle.std.specs.Prelude.{ℕ, ◌*◌, List, take, Option, None, Some}
 use Rattle.util.specs.Outcome.{Outcome, result, ◌>>=◌}
 use Rattle.util.specs.Take.{taken_part}
 use Rattle.nds.specs.Formats.{data_length, second_length}
-use Rattle.errors.specs.Refusal.{refusal_outcome}
 use Rattle.errors.specs.declared.Kind.TheVariants as kind
 use Rattle.scripts.specs.Script.{Answer, outcome_of}
 use Rattle.reading.specs.Tex.{Data, Palette, Contents, header_of}
 use Rattle.layout.specs.Positions.{data_at, second_at}
 use Rattle.layout.specs.declared.Header.{Header}
 use Rattle.nitro.specs.Calls.{entry}
-use Rattle.places.specs.declared.PaletteChoice.{PaletteChoice}
-use Rattle.places.specs.declared.PaletteChoice.TheVariants as choice
-use Rattle.places.specs.declared.PaletteOff.{PaletteOff}
-use Rattle.places.specs.declared.PaletteOff.TheVariants as off
 use Rattle.places.specs.declared.Place.{Place}
 use Rattle.places.specs.declared.Places.{Places}
-use Rattle.places.specs.declared.Located.{Located}
-use Rattle.places.specs.declared.Located.TheVariants as located
-use Rattle.places.specs.declared.Placed.{Placed}
-use Rattle.places.specs.declared.Placed.TheVariants as placed
 
 -- What a picture is made from: the word and data of a texture, the offset of the palette chosen for it, if one was, and the palette block.
 pub record Sources : Type 0 where
   pub word : ℕ
   pub parts : Data
-  pub palette : PaletteOff
+  pub palette : Option ℕ
   pub pal_block : List ℕ
 
--- 01, "Rust idioms to redo": "`Option<&Palette>`: an enum with a number, the palette bytes beside it."
-unfoldable pub chosen_of : PaletteChoice → List Palette → Outcome PaletteOff
-chosen_of choice.None palettes = result off.None
-chosen_of (choice.Number k) palettes = entry kind.Palette (λ p. off.At p.off) palettes k
+-- 01, "Rust idioms to redo": "`Option<&Palette>`: an enum with a number, the palette bytes beside it." A palette is chosen by its number, and
+-- a picture has it by its offset.
+unfoldable pub chosen_of : Option ℕ → List Palette → Outcome (Option ℕ)
+chosen_of None palettes = result None
+chosen_of (Some k) palettes = entry kind.Palette (λ p. Some p.off) palettes k
 
 -- "A picture from a block: reading, 7, 8 (also where the palette is unneeded), .."
-unfoldable pub sources_of : (n : ℕ) → PaletteChoice → Answer Contents → Outcome Sources
+unfoldable pub sources_of : (n : ℕ) → Option ℕ → Answer Contents → Outcome Sources
 sources_of n choice a = outcome_of a λ c. do
   texture ← entry kind.Texture (λ t. t) c.textures n
   palette ← chosen_of choice c.palettes
@@ -47,13 +39,9 @@ pal_place_at h = record { pos = h.pal_block_off; len = 8 * h.pal_block_len_shr_3
 unfoldable pub pal_place_of : (block : List ℕ) → Answer Contents → Outcome Place
 pal_place_of block a = outcome_of a λ c. result (pal_place_at (header_of (take 60 block)))
 
-abbrev pub placed_outcome : Placed → Outcome Place
-placed_outcome (placed.Found place) = result place
-placed_outcome (placed.Refused r) = refusal_outcome r
-
 -- The places of a picture's parts. 01, "Modules" 5: "Data lies at `tex_block_off` + offset. For format 5 it lies at
 -- `compressed1_block_off` + offset, then half as many bytes at `compressed2_block_off` + half the offset."
-abbrev pub places_at : Header → (word : ℕ) → PaletteOff → Places
+abbrev pub places_at : Header → (word : ℕ) → Option ℕ → Places
 places_at h word palette = record {
   params = record { 0 = word };
   data1 = record { pos = data_at h word; len = data_length word };
@@ -62,14 +50,10 @@ places_at h word palette = record {
   pal_block = pal_place_at h;
 }
 
-unfoldable pub places_of : (n : ℕ) → PaletteChoice → (block : List ℕ) → Answer Contents → Outcome Places
+unfoldable pub places_of : (n : ℕ) → Option ℕ → (block : List ℕ) → Answer Contents → Outcome Places
 places_of n choice block a = do
   sources ← sources_of n choice a
   result (places_at (header_of (take 60 block)) sources.word sources.palette)
-
-abbrev pub located_outcome : Located → Outcome Places
-located_outcome (located.Found places) = result places
-located_outcome (located.Refused r) = refusal_outcome r
 
 -- The part of the block at a place, and all parts at a picture's places.
 abbrev pub part_at : (block : List ℕ) → Place → List ℕ

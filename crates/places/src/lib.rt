@@ -3,6 +3,7 @@
 #![tactic(auto)]
 
 ghost use Rattle.std.specs.Prelude.{◌≡◌, true, ◌+◌, ◌<◌, ◌≤◌, length};
+ghost use Rattle.errors.specs.Refusal.{result_outcome};
 ghost use Rattle.errors.specs.declared.Kind.TheVariants as kinds;
 ghost use Rattle.scripts.specs.Script.{run};
 ghost use Rattle.info_block.specs.InfoBlock.{list_length};
@@ -14,21 +15,7 @@ ghost use Rattle.places.specs.ByLayout as ByLayout;
 use errors::{Kind, Refusal};
 use layout::{Header, Layout, data1_pos, data2_pos, off_at, pal_block_len, params_at};
 use nds::texture_params::TextureParams;
-use reading::{Laid, lay_out};
-
-// The palette that a picture is to have.
-#[derive(Clone, Copy)]
-pub enum PaletteChoice {
-    None,
-    Number(usize),
-}
-
-// The offset of the palette that a picture has, in bytes, from the palette block's start.
-#[derive(Clone, Copy)]
-pub enum PaletteOff {
-    None,
-    At(u32),
-}
+use reading::lay_out;
 
 // A part of a block: len bytes at pos.
 #[derive(Clone, Copy)]
@@ -43,20 +30,9 @@ pub struct Places {
     pub params: TextureParams,
     pub data1: Place,
     pub data2: Place,
-    pub palette: PaletteOff,
+    // The offset of the palette that the picture has, in bytes, from the palette block's start.
+    pub palette: Option<u32>,
     pub pal_block: Place,
-}
-
-#[derive(Clone, Copy)]
-pub enum Located {
-    Found(Places),
-    Refused(Refusal),
-}
-
-#[derive(Clone, Copy)]
-pub enum Placed {
-    Found(Place),
-    Refused(Refusal),
 }
 
 // The palette block's place.
@@ -70,44 +46,39 @@ fn pal_place_at(header: Header) -> Place
 }
 
 // Where the palette block is.
-pub fn pal_place(block: &[u8]) -> Placed
-    ensures { Sources.placed_outcome result ≡ Sources.pal_place_of block.now (run Tex.read_tex block.now) }
+pub fn pal_place(block: &[u8]) -> Result<Place, Refusal>
+    ensures { result_outcome result ≡ Sources.pal_place_of block.now (run Tex.read_tex block.now) }
 {
-    match lay_out(block) {
-        Laid::Found(layout) => {
-            let header = layout.header;
-            Placed::Found(pal_place_at(header))
-        }
-        Laid::Refused(refusal) => Placed::Refused(refusal),
-    }
+    let layout = lay_out(block)?;
+    Ok(pal_place_at(layout.header))
 }
 
 // Whether the layout's block has the palette that is chosen.
-fn has_choice(layout: Layout, choice: PaletteChoice) -> bool
+fn has_choice(layout: Layout, choice: Option<usize>) -> bool
     ensures { result ≡ ByLayout.has_choice layout choice }
 {
     match choice {
-        PaletteChoice::None => true,
-        PaletteChoice::Number(k) => k < layout.palettes,
+        None => true,
+        Some(k) => k < layout.palettes,
     }
 }
 
 // The offset of the palette that is chosen.
-fn chosen_off(block: &[u8], layout: Layout, choice: PaletteChoice) -> PaletteOff
+fn chosen_off(block: &[u8], layout: Layout, choice: Option<usize>) -> Option<u32>
     requires { (layout.header.palette_off + list_length kinds.Palette layout.palettes ≤ length block.now) × (ByLayout.has_choice layout choice ≡ true) }
     ensures { result ≡ ByLayout.chosen_at block.now layout choice }
 {
     match choice {
-        PaletteChoice::None => PaletteOff::None,
-        PaletteChoice::Number(k) => {
+        None => None,
+        Some(k) => {
             let header = layout.header;
-            PaletteOff::At(off_at(block, header.palette_off as usize, layout.palettes, k))
+            Some(off_at(block, header.palette_off as usize, layout.palettes, k))
         }
     }
 }
 
 // The places of texture n by the block's layout, beside a palette's offset.
-pub fn places_of(block: &[u8], layout: Layout, n: usize, palette: PaletteOff) -> Places
+pub fn places_of(block: &[u8], layout: Layout, n: usize, palette: Option<u32>) -> Places
     requires { (layout.header.texture_off + list_length kinds.Texture layout.textures ≤ length block.now) × (n < layout.textures) }
     ensures { result ≡ ByLayout.places_by block.now layout n palette }
 {
@@ -130,28 +101,25 @@ pub fn places_of(block: &[u8], layout: Layout, n: usize, palette: PaletteOff) ->
 
 // Where in the block all that a picture of texture n with the chosen palette is made from is, by the block's layout: one reading serves for many
 // pictures.
-pub fn locate_by(block: &[u8], layout: Layout, n: usize, choice: PaletteChoice) -> Located
+pub fn locate_by(block: &[u8], layout: Layout, n: usize, choice: Option<usize>) -> Result<Places, Refusal>
     requires { LaidOut block.now layout }
-    ensures { Sources.located_outcome result ≡ Sources.places_of n choice block.now (run Tex.read_tex block.now) }
+    ensures { result_outcome result ≡ Sources.places_of n choice block.now (run Tex.read_tex block.now) }
 {
     if n < layout.textures {
         if has_choice(layout, choice) {
             let palette = chosen_off(block, layout, choice);
-            Located::Found(places_of(block, layout, n, palette))
+            Ok(places_of(block, layout, n, palette))
         } else {
-            Located::Refused(Refusal::Number(Kind::Palette))
+            Err(Refusal::Number(Kind::Palette))
         }
     } else {
-        Located::Refused(Refusal::Number(Kind::Texture))
+        Err(Refusal::Number(Kind::Texture))
     }
 }
 
 // Where in the block all that a picture of texture n with the chosen palette is made from is.
-pub fn locate(block: &[u8], n: usize, choice: PaletteChoice) -> Located
-    ensures { Sources.located_outcome result ≡ Sources.places_of n choice block.now (run Tex.read_tex block.now) }
+pub fn locate(block: &[u8], n: usize, choice: Option<usize>) -> Result<Places, Refusal>
+    ensures { result_outcome result ≡ Sources.places_of n choice block.now (run Tex.read_tex block.now) }
 {
-    match lay_out(block) {
-        Laid::Refused(refusal) => Located::Refused(refusal),
-        Laid::Found(layout) => locate_by(block, layout, n, choice),
-    }
+    locate_by(block, lay_out(block)?, n, choice)
 }

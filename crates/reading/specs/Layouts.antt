@@ -1,17 +1,12 @@
 -- What `lay_out` answers with: the layout, which is the header and both counts; and what the functions below it hand on. Assumes nothing.
 use Rattle.std.specs.Prelude.{ℕ, ◌≡◌, List, length, take}
 use Rattle.util.specs.Outcome.{Outcome, result}
-use Rattle.errors.specs.Refusal.{refusal_outcome}
 use Rattle.errors.specs.declared.Kind.TheVariants as kind
 use Rattle.scripts.specs.Script.{Script, Answer, run, outcome_of, each}
 use Rattle.info_block.specs.InfoBlock.{list_at}
 use Rattle.reading.specs.Tex.{Texture, Contents, header_of, read_texture, read_tex}
 use Rattle.layout.specs.declared.Header.{Header}
 use Rattle.layout.specs.declared.Layout.{Layout}
-use Rattle.reading.specs.declared.Headed.{Headed}
-use Rattle.reading.specs.declared.Headed.TheVariants as headed
-use Rattle.reading.specs.declared.Laid.{Laid}
-use Rattle.reading.specs.declared.Laid.TheVariants as laid
 
 -- How many things a script came to.
 abbrev pub counting : {A : Type 0} → Script (List A) → (block : List ℕ) → Outcome ℕ
@@ -20,14 +15,6 @@ counting s block = outcome_of (run s block) λ found. result (length found)
 -- The textures of a list of c entries that stands in the block.
 abbrev pub each_texture : Header → (c : ℕ) (block : List ℕ) → Script (List Texture)
 each_texture h c block = each c (read_texture h (list_at kind.Texture h.texture_off c block))
-
-abbrev pub headed_outcome : Headed → Outcome Header
-headed_outcome (headed.Found h) = result h
-headed_outcome (headed.Refused r) = refusal_outcome r
-
-abbrev pub laid_outcome : Laid → Outcome Layout
-laid_outcome (laid.Found l) = result l
-laid_outcome (laid.Refused r) = refusal_outcome r
 
 abbrev pub layout_of : (block : List ℕ) → Contents → Layout
 layout_of block c = record {

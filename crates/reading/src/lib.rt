@@ -6,30 +6,18 @@
 
 ghost use Rattle.std.specs.Prelude.{◌≡◌, ◌+◌, ◌≤◌, length, take as first_bytes};
 ghost use Rattle.util.specs.Outcome.{result as answered};
-ghost use Rattle.errors.specs.Refusal.{status_outcome, counted_outcome};
+ghost use Rattle.errors.specs.Refusal.{result_outcome};
 ghost use Rattle.errors.specs.declared.Kind.TheVariants as kinds;
 ghost use Rattle.scripts.specs.Script.{run, outcome_of, passing};
 ghost use Rattle.info_block.specs.InfoBlock.{list_length};
 ghost use Rattle.reading.specs.Tex as Tex;
 ghost use Rattle.reading.specs.Layouts as Layouts;
 
-use errors::{Counted, Kind, Refusal, Status};
+use errors::{Kind, Refusal};
 use layout::{Header, Layout, data1_pos, data2_pos, pal_block_len, params_at};
 use nds::texture_params::TextureParams;
 use scripts::take;
 use util::view::{view_u16, view_u32};
-
-#[derive(Clone, Copy)]
-enum Headed {
-    Found(Header),
-    Refused(Refusal),
-}
-
-#[derive(Clone, Copy)]
-pub enum Laid {
-    Found(Layout),
-    Refused(Refusal),
-}
 
 // Whether the block begins with TEX0.
 fn has_stamp(block: &[u8]) -> bool
@@ -65,105 +53,85 @@ fn header_of(block: &[u8]) -> Header
 }
 
 // Reads the header, and then checks its stamp.
-fn read_header(block: &[u8]) -> Headed
-    ensures { Layouts.headed_outcome result ≡ outcome_of (run Tex.read_header block.now) answered }
+fn read_header(block: &[u8]) -> Result<Header, Refusal>
+    ensures { result_outcome result ≡ outcome_of (run Tex.read_header block.now) answered }
 {
-    match take(block, 0, 60) {
-        Status::Refused(refusal) => Headed::Refused(refusal),
-        Status::Done => {
-            if has_stamp(block) {
-                Headed::Found(header_of(block))
-            } else {
-                Headed::Refused(Refusal::Stamp)
-            }
-        }
+    take(block, 0, 60)?;
+    if has_stamp(block) {
+        Ok(header_of(block))
+    } else {
+        Err(Refusal::Stamp)
     }
 }
 
 // Whether the palette block is there.
-fn take_pal_block(block: &[u8], header: Header) -> Status
-    ensures { status_outcome result ≡ passing (Tex.read_pal_block header) block.now }
+fn take_pal_block(block: &[u8], header: Header) -> Result<(), Refusal>
+    ensures { result_outcome result ≡ passing (Tex.read_pal_block header) block.now }
 {
     take(block, header.pal_block_off as usize, pal_block_len(header))
 }
 
 // Whether the second data is there, for a texture that has any.
-fn take_data2(block: &[u8], header: Header, params: TextureParams) -> Status
-    ensures { status_outcome result ≡ passing (Tex.read_second header params.0) block.now }
+fn take_data2(block: &[u8], header: Header, params: TextureParams) -> Result<(), Refusal>
+    ensures { result_outcome result ≡ passing (Tex.read_second header params.0) block.now }
 {
     let format = params.format();
     if format.0 == 5 {
         take(block, data2_pos(header, params), params.byte_len2())
     } else {
-        Status::Done
+        Ok(())
     }
 }
 
 // Whether a texture's data are there, the first and then the second. A texture of format 0 has 0 bytes, and a position all the same.
-fn take_data(block: &[u8], header: Header, params: TextureParams) -> Status
-    ensures { status_outcome result ≡ passing (Tex.read_data header params.0) block.now }
+fn take_data(block: &[u8], header: Header, params: TextureParams) -> Result<(), Refusal>
+    ensures { result_outcome result ≡ passing (Tex.read_data header params.0) block.now }
 {
-    match take(block, data1_pos(header, params), params.byte_len()) {
-        Status::Refused(refusal) => Status::Refused(refusal),
-        Status::Done => take_data2(block, header, params),
-    }
+    take(block, data1_pos(header, params), params.byte_len())?;
+    take_data2(block, header, params)
 }
 
 // Whether the data of all textures are there, in list order.
-fn take_all_data(block: &[u8], header: Header, count: usize) -> Counted
+fn take_all_data(block: &[u8], header: Header, count: usize) -> Result<usize, Refusal>
     requires { header.texture_off + list_length kinds.Texture count ≤ length block.now }
-    ensures { counted_outcome result ≡ Layouts.counting (Layouts.each_texture header count block.now) block.now }
+    ensures { result_outcome result ≡ Layouts.counting (Layouts.each_texture header count block.now) block.now }
 {
     let pos = header.texture_off as usize;
     let mut i = 0;
     while i < count {
         let params = params_at(block, pos, count, i);
-        if let Status::Refused(refusal) = take_data(block, header, params) {
-            return Counted::Refused(refusal);
-        }
+        take_data(block, header, params)?;
         i += 1;
     }
-    Counted::Count(count)
+    Ok(count)
 }
 
 // Reads the texture list, and then each texture's data.
-fn read_textures(block: &[u8], header: Header) -> Counted
-    ensures { counted_outcome result ≡ Layouts.counting (Tex.read_textures header) block.now }
+fn read_textures(block: &[u8], header: Header) -> Result<usize, Refusal>
+    ensures { result_outcome result ≡ Layouts.counting (Tex.read_textures header) block.now }
 {
-    match info_block::read(block, Kind::Texture, header.texture_off as u32) {
-        Counted::Refused(refusal) => Counted::Refused(refusal),
-        Counted::Count(count) => take_all_data(block, header, count),
-    }
+    let count = info_block::read(block, Kind::Texture, header.texture_off as u32)?;
+    take_all_data(block, header, count)
 }
 
 // Reads the palette list.
-fn read_palettes(block: &[u8], header: Header) -> Counted
-    ensures { counted_outcome result ≡ Layouts.counting (Tex.read_palettes header) block.now }
+fn read_palettes(block: &[u8], header: Header) -> Result<usize, Refusal>
+    ensures { result_outcome result ≡ Layouts.counting (Tex.read_palettes header) block.now }
 {
     info_block::read(block, Kind::Palette, header.palette_off)
 }
 
 // Reads the block: header, palette block, textures, palettes.
-pub fn lay_out(block: &[u8]) -> Laid
-    ensures { Layouts.laid_outcome result ≡ Layouts.layout_answer block.now (run Tex.read_tex block.now) }
+pub fn lay_out(block: &[u8]) -> Result<Layout, Refusal>
+    ensures { result_outcome result ≡ Layouts.layout_answer block.now (run Tex.read_tex block.now) }
 {
-    let header = match read_header(block) {
-        Headed::Found(header) => header,
-        Headed::Refused(refusal) => return Laid::Refused(refusal),
-    };
-    if let Status::Refused(refusal) = take_pal_block(block, header) {
-        return Laid::Refused(refusal);
-    }
-    let textures = match read_textures(block, header) {
-        Counted::Count(textures) => textures,
-        Counted::Refused(refusal) => return Laid::Refused(refusal),
-    };
-    match read_palettes(block, header) {
-        Counted::Count(palettes) => Laid::Found(Layout {
-            header,
-            textures,
-            palettes,
-        }),
-        Counted::Refused(refusal) => Laid::Refused(refusal),
-    }
+    let header = read_header(block)?;
+    take_pal_block(block, header)?;
+    let textures = read_textures(block, header)?;
+    let palettes = read_palettes(block, header)?;
+    Ok(Layout {
+        header,
+        textures,
+        palettes,
+    })
 }

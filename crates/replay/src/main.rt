@@ -43,7 +43,7 @@
 ghost use Rattle.std.specs.Prelude.{◌≤◌};
 
 use answer_bytes::MAX_ANSWER;
-use replay_cases::{MAX_PART, Ran};
+use replay_cases::MAX_PART;
 use replay_runs::run_case;
 use report::{decimal, text};
 
@@ -85,12 +85,12 @@ fn replay(parts: &mut [u8], stored: &mut [u8]) {
     let mut agreeing: u64 = 0;
     while cases < u64::MAX {
         match run_case(parts, stored) {
-            Ran::Compared(agrees) => agreeing += counted(agrees, cases),
-            Ran::Broken => {
+            Ok(Some(agrees)) => agreeing += counted(agrees, cases),
+            Err(_) => {
                 broken(cases);
                 return;
             }
-            Ran::End => {
+            Ok(None) => {
                 totals(agreeing, cases);
                 return;
             }

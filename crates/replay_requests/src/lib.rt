@@ -7,28 +7,20 @@ use cases::field;
 use cursor::part_at;
 use direct_answers::{Request, direct_agrees};
 use nds::texture_params::TextureParams;
-use places::PaletteOff;
-use replay_cases::{MAX_PART, Part, Ran, next_bytes, next_part};
-use util::cur::{Peeked, peek_u8};
+use replay_cases::{Broken, MAX_PART, next_bytes, next_part};
+use util::cur::peek_u8;
 
 // The length of what stands between a direct decoding's first byte and its first data.
 const HEAD: usize = 21;
 
 // Whether a direct decoding has a palette.
 fn has_palette(head: &[u8]) -> bool {
-    match peek_u8(head, 4) {
-        Peeked::Number(n) => n != 0,
-        Peeked::Short(_) => false,
-    }
+    peek_u8(head, 4).unwrap_or(0) != 0
 }
 
 // A direct decoding's palette.
-fn palette_off(head: &[u8]) -> PaletteOff {
-    if has_palette(head) {
-        PaletteOff::At(field(head, 5))
-    } else {
-        PaletteOff::None
-    }
+fn palette_off(head: &[u8]) -> Option<u32> {
+    has_palette(head).then_some(field(head, 5))
 }
 
 // What stands before the bytes of a direct decoding's parts.
@@ -58,25 +50,19 @@ fn parts_len(request: Request) -> usize {
     request.data1_len as usize + request.data2_len as usize + request.pal_len as usize
 }
 
-// Runs the direct decoding that is asked for.
-fn run_request(request: Request, parts: &mut [u8], stored: &mut [u8]) -> Ran {
+// Whether the direct decoding that is asked for agrees.
+fn run_request(request: Request, parts: &mut [u8], stored: &mut [u8]) -> Result<bool, Broken> {
     if !is_within(request) {
-        return Ran::Broken;
+        return Err(Broken);
     }
-    if !next_bytes(parts, parts_len(request)) {
-        return Ran::Broken;
-    }
-    match next_part(stored, MAX_ANSWER) {
-        Part::Whole(len) => Ran::Compared(direct_agrees(request, parts, part_at(stored, 0, len))),
-        Part::Broken => Ran::Broken,
-    }
+    next_bytes(parts, parts_len(request))?;
+    let len = next_part(stored, MAX_ANSWER)?;
+    Ok(direct_agrees(request, parts, part_at(stored, 0, len)))
 }
 
-// Runs a case that is a direct decoding.
-pub fn run_direct(parts: &mut [u8], stored: &mut [u8]) -> Ran {
+// Whether a case that is a direct decoding agrees.
+pub fn run_direct(parts: &mut [u8], stored: &mut [u8]) -> Result<bool, Broken> {
     let mut head = [0; HEAD];
-    if !next_bytes(&mut head, HEAD) {
-        return Ran::Broken;
-    }
+    next_bytes(&mut head, HEAD)?;
     run_request(request_of(&head), parts, stored)
 }

@@ -2,7 +2,7 @@
 
 #![tactic(auto)]
 
-use errors::{Counted, Refusal};
+use errors::Refusal;
 use nds::texture_formats::Alpha;
 use nds::wrap::Wrap;
 
@@ -36,13 +36,13 @@ pub fn refused(refusal: Refusal) {
 }
 
 // Prints an answer that is a number or a refusal.
-pub fn counted(c: Counted) {
-    match c {
-        Counted::Count(n) => {
+pub fn counted(answer: Result<usize, Refusal>) {
+    match answer {
+        Ok(n) => {
             text(b" | ok");
             number(n as u64);
         }
-        Counted::Refused(refusal) => refused(refusal),
+        Err(refusal) => refused(refusal),
     }
 }
 

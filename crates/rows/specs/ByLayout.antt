@@ -1,11 +1,10 @@
 -- The rows by the layout, as the private functions put them; no public contract cites it. Assumes nothing.
-use Rattle.std.specs.Prelude.{ℕ, ◌+◌, ◌*◌, List, [], ◌∷◌}
+use Rattle.std.specs.Prelude.{ℕ, ◌+◌, ◌*◌, List, [], ◌∷◌, None}
 use Rattle.errors.specs.declared.Kind.{Kind}
 use Rattle.errors.specs.declared.Kind.TheVariants as kind
 use Rattle.info_block.specs.InfoBlock.{list_at, list_length, name_at, entry_number}
 use Rattle.layout.specs.declared.Layout.{Layout}
 use Rattle.places.specs.ByLayout.{places_by}
-use Rattle.places.specs.declared.PaletteOff.TheVariants as offs
 use Rattle.places.specs.declared.Places.{Places}
 use Rattle.rows.specs.Rows.{told_pos}
 
@@ -30,7 +29,7 @@ places_row name places =
     ∷ []
 
 unfoldable pub row_by : Kind → (block : List ℕ) → Layout → (n : ℕ) → List ℕ
-row_by kind.Texture block l n = places_row (l.header.texture_off + name_at kind.Texture l.textures n) (places_by block l n offs.None)
+row_by kind.Texture block l n = places_row (l.header.texture_off + name_at kind.Texture l.textures n) (places_by block l n None)
 row_by kind.Palette block l n =
     (l.header.palette_off + name_at kind.Palette l.palettes n)
     ∷ 8 * entry_number kind.Palette 2 (list_at kind.Palette l.header.palette_off l.palettes block) n

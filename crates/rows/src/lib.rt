@@ -4,7 +4,7 @@
 
 ghost use Rattle.std.specs.Prelude.{◌≡◌, ◌+◌, ◌*◌, ◌<◌, ◌≤◌, length};
 ghost use Rattle.std.proofs.lemmas.List.Edits.{sets};
-ghost use Rattle.errors.specs.Refusal.{counted_outcome};
+ghost use Rattle.errors.specs.Refusal.{result_outcome};
 ghost use Rattle.errors.specs.declared.Kind.TheVariants as kinds;
 ghost use Rattle.output.specs.Output.{Writes, pieces};
 ghost use Rattle.scripts.specs.Script.{run};
@@ -13,10 +13,10 @@ ghost use Rattle.reading.specs.Tex as Tex;
 ghost use Rattle.rows.specs.ByLayout as ByLayout;
 ghost use Rattle.rows.specs.Rows as Rows;
 
-use errors::{Counted, Kind, Refusal};
+use errors::{Kind, Refusal};
 use layout::{Layout, count_of, off_at};
-use places::{PaletteOff, Place, places_of};
-use reading::{Laid, lay_out};
+use places::{Place, places_of};
+use reading::lay_out;
 
 // How many numbers the row of an entry has.
 fn row_len(kind: Kind) -> usize
@@ -43,7 +43,7 @@ fn put_texture_row(rows: &mut [usize], at: usize, block: &[u8], layout: Layout, 
     let header = layout.header;
     let pos = header.texture_off as usize;
     let count = layout.textures;
-    let places = places_of(block, layout, n, PaletteOff::None);
+    let places = places_of(block, layout, n, None);
     let data1 = places.data1;
     let data2 = places.data2;
     rows[at] = pos + (16 + 4 * count + 8 * count + 16 * n);
@@ -94,18 +94,14 @@ fn put_rows(rows: &mut [usize], block: &[u8], kind: Kind, layout: Layout)
 // Writes a row of numbers for each texture, or for each palette, and answers with how many numbers that are. All are of one reading. A
 // texture has six: where its name begins, its word, where its data begin and how long they are, and the same of its second data. A palette
 // has two: where its name begins, and its offset in bytes.
-pub fn rows(block: &[u8], kind: Kind, out: &mut [usize]) -> Counted
-    ensures { Writes (Rows.rows_of kind block.now (run Tex.read_tex block.now)) out.old (counted_outcome result) out.new }
+pub fn rows(block: &[u8], kind: Kind, out: &mut [usize]) -> Result<usize, Refusal>
+    ensures { Writes (Rows.rows_of kind block.now (run Tex.read_tex block.now)) out.old (result_outcome result) out.new }
 {
-    match lay_out(block) {
-        Laid::Refused(refusal) => Counted::Refused(refusal),
-        Laid::Found(layout) => {
-            let len = count_of(kind, layout) * row_len(kind);
-            if out.len() < len {
-                return Counted::Refused(Refusal::Output);
-            }
-            put_rows(out, block, kind, layout);
-            Counted::Count(len)
-        }
+    let layout = lay_out(block)?;
+    let len = count_of(kind, layout) * row_len(kind);
+    if out.len() < len {
+        return Err(Refusal::Output);
     }
+    put_rows(out, block, kind, layout);
+    Ok(len)
 }

@@ -3,13 +3,13 @@
 #![tactic(auto)]
 
 use block_report::counted;
-use errors::{Counted, Kind};
+use errors::{Kind, Refusal};
 use report::{number, text};
 
 // Prints what the call for all rows of a kind answered, and all of its output.
-fn rows(c: Counted, out: &[usize]) {
+fn rows(answer: Result<usize, Refusal>, out: &[usize]) {
     text(b"rows");
-    counted(c);
+    counted(answer);
     text(b" of");
     let mut i = 0;
     while i < out.len() {

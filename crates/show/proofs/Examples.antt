@@ -1,11 +1,11 @@
 -- What is shown of some files. Assumes nothing.
+use Rattle.std.specs.Prelude.{None}
 use mathlib.Core.Path.{◌≡◌, refl}
 use mathlib.Core.List.{[]}
 use Rattle.util.specs.Outcome.{◌>>=◌ as ◌andThen◌}
 use Rattle.scripts.specs.Script.{run, outcome_of, bytes_at, ◌>>=◌, ◌>>◌}
 use Rattle.reading.specs.Tex.{read_header, read_tex}
 use Rattle.places.specs.Sources.{sources_of}
-use Rattle.places.specs.declared.PaletteChoice.TheVariants.{None}
 use Rattle.pam.specs.Pam.{pam_of}
 use Rattle.show.specs.Show.{shown_of}
 use Rattle.show.specs.declared.Shown.TheVariants.{Refused}

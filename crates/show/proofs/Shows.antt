@@ -1,4 +1,5 @@
 -- The laws of what is shown of a file. Assumes nothing.
+use Rattle.std.specs.Prelude.{Option}
 use Prim.Native.Nat.{ℕ, ◌≤◌}
 use mathlib.Core.Path.{◌≡◌, refl, sym, ap, ◌∙◌}
 use mathlib.Core.Bool.{Bool, true, false, cond}
@@ -16,7 +17,6 @@ use Rattle.output.specs.Output.{write_outcome, write_output, Writes}
 use Rattle.output.proofs.Outputs.{Wrote, wrote_text, wrote_counts, writes_whole}
 use Rattle.scripts.specs.Script.{run}
 use Rattle.reading.specs.Tex.{read_tex}
-use Rattle.places.specs.declared.PaletteChoice.{PaletteChoice}
 use Rattle.pam.specs.Pam.{pam_of}
 use Rattle.pam.proofs.Bounds.{pam_fits}
 use Rattle.show.specs.Show.{too_long, shown_as, shown_of, shown_output}
@@ -42,7 +42,7 @@ module _ {made : Outcome (List ℕ)} {entry : List ℕ} (room : (image : List �
       go (refusal k v) q = rw q (cc (rw q at w.outcome))
       go (result image) q = absurd (refusal_not r (writes_whole image entry (room image q) (rw q at w)).0)
 
-module _ (file : List ℕ) (n : ℕ) (choice : PaletteChoice) (entry : List ℕ) where
+module _ (file : List ℕ) (n : ℕ) (choice : Option ℕ) (entry : List ℕ) where
   -- what is promised of the answer and the output
   abbrev pub Shows : Shown → (exit : List ℕ) → Type 0
   Shows r exit = (r ≡ shown_of file n choice) × (exit ≡ shown_output file n choice entry)

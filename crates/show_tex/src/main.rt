@@ -6,11 +6,11 @@
 
 ghost use Rattle.std.specs.Prelude.{◌≤◌, length};
 
-use arguments::{Parsed, ParsedChoice, parse_choice, parse_number};
+use arguments::{parse_choice, parse_number};
 use cursor::part_at;
-use places::PaletteChoice;
 use refused::MAX_REFUSED;
-use show::{MAX_BLOCK, MAX_PAM, Shown};
+use errors::Refusal;
+use show::{MAX_BLOCK, MAX_PAM, Unshown};
 use std::env::FillError;
 use std::io::{ErrorKind, Read};
 use std::rt::{Env, Files};
@@ -46,13 +46,13 @@ fn number_text(rt: &impl Env, i: usize, text: &mut [u8; MAX_ARGUMENT]) -> usize
     }
 }
 
-fn texture_number(rt: &impl Env) -> Parsed {
+fn texture_number(rt: &impl Env) -> Option<usize> {
     let mut text = [0; MAX_ARGUMENT];
     let len = number_text(rt, 2, &mut text);
     parse_number(&text[..len])
 }
 
-fn palette_choice(rt: &impl Env) -> ParsedChoice {
+fn palette_choice(rt: &impl Env) -> Option<Option<usize>> {
     let mut text = [0; MAX_ARGUMENT];
     let len = number_text(rt, 3, &mut text);
     parse_choice(&text[..len])
@@ -77,9 +77,9 @@ fn write_image(rt: &impl Print, out: &[u8; MAX_PAM], len: usize) -> io::Result<(
     rt.write_all(part_at(out, 0, len))
 }
 
-fn tell_refused(err: &impl Print, number: usize, returned: usize) -> io::Result<()> {
+fn tell_refused(err: &impl Print, refusal: Refusal) -> io::Result<()> {
     let mut line = [0; MAX_REFUSED];
-    let len = refused::write_refused(number, returned, &mut line);
+    let len = refused::write_refused(refusal.number(), refusal.returned(), &mut line);
     err.write_all(&line[..len])
 }
 
@@ -120,15 +120,15 @@ fn show(
     err: &impl Print,
     file: &mut impl Read,
     n: usize,
-    choice: PaletteChoice,
+    choice: Option<usize>,
 ) -> io::Result<()> {
     let mut input = [0; MAX_BLOCK + 1];
     let mut out = [0; MAX_PAM];
     let len = read_file(file, &mut input);
     match show::show(&input[..len], n, choice, &mut out) {
-        Shown::Image(len) => write_image(rt, &out, len),
-        Shown::Refused(number, returned) => tell_refused(err, number, returned),
-        Shown::TooLong => tell_too_long(err),
+        Ok(len) => write_image(rt, &out, len),
+        Err(Unshown::Refused(refusal)) => tell_refused(err, refusal),
+        Err(Unshown::TooLong) => tell_too_long(err),
     }
 }
 
@@ -137,7 +137,7 @@ fn show_file<R: Env + Files + Print + Alloc>(
     rt: &R,
     err: &impl Print,
     n: usize,
-    choice: PaletteChoice,
+    choice: Option<usize>,
 ) -> io::Result<()> {
     let mut path = [0; MAX_ARGUMENT];
     let Ok(len) = rt.arg(1, &mut path) else {
@@ -155,10 +155,10 @@ fn main(rt: HostRuntime) -> io::Result<()> {
     if !has_three_arguments(&rt) {
         return print_usage(&err);
     }
-    let Parsed::Number(n) = texture_number(&rt) else {
+    let Some(n) = texture_number(&rt) else {
         return print_usage(&err);
     };
-    let ParsedChoice::Choice(choice) = palette_choice(&rt) else {
+    let Some(choice) = palette_choice(&rt) else {
         return print_usage(&err);
     };
     show_file(&rt, &err, n, choice)

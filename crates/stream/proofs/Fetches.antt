@@ -1,4 +1,5 @@
 -- The laws of fetching: what its loop keeps, and what it has where it ends, for every call of the reading. Assumes nothing.
+use Rattle.std.specs.Prelude.{Option}
 use Prim.Native.Nat.{ℕ, ◌+◌, ◌≤◌, ◌<◌}
 use mathlib.Core.Path.{◌≡◌, refl, sym, ◌∙◌}
 use mathlib.Core.Bool.{Bool, true, false}
@@ -11,7 +12,6 @@ use Rattle.util.specs.Outcome.{Outcome, result, refusal}
 use Rattle.output.proofs.Outputs.{refused_keeps}
 use Rattle.scripts.specs.Script.{ends, records}
 use Rattle.reading.specs.Tex.{read_tex}
-use Rattle.places.specs.declared.PaletteChoice.{PaletteChoice}
 use Rattle.scripts.proofs.Early.{early_settled, early_waits}
 use Rattle.stream.specs.Fetch.{shortness, Call, short_answers, Fetched, picture_call}
 use Rattle.laws.specs.Prefix.{Prefix}
@@ -99,6 +99,6 @@ module _ {A B : Type 0} (call : Call A B) (b : List ℕ) {output left : B} {last
   fetched a l c = record { answered = a; leaving = l; counted = c; bounded = omega (arith, c, bound b) }
 
 -- a fetching picture that ends in a refusal leaves every byte of the output as it was
-pub fetched_keeps : (n : ℕ) (choice : PaletteChoice) {block output left : List ℕ} {number returned count : ℕ}
+pub fetched_keeps : (n : ℕ) (choice : Option ℕ) {block output left : List ℕ} {number returned count : ℕ}
     → Fetched (picture_call n choice) block output (refusal number returned) left count → left ≡ output
 fetched_keeps n choice f = refused_keeps (record { outcome = f.answered; output = f.leaving })

@@ -1,20 +1,17 @@
 -- Fetching: 01's "fetching run", over a whole block. The sentences quoted are those of 01's "When a call is declined". Assumes nothing.
-use Rattle.std.specs.Prelude.{ℕ, ◌+◌, ◌*◌, ◌≤◌, ◌<◌, ◌≡◌, cond, ◌&&◌, List, [], ◌∷◌, length, take, leb, eqb}
+use Rattle.std.specs.Prelude.{ℕ, ◌+◌, ◌*◌, ◌≤◌, ◌<◌, ◌≡◌, cond, ◌&&◌, List, [], ◌∷◌, length, take, leb, eqb, Option, None, Some}
 use Rattle.util.specs.Number.{number_at}
 use Rattle.util.specs.Outcome.{Outcome, result, refusal}
 use Rattle.output.specs.Output.{write_outcome, write_output}
 use Rattle.scripts.specs.Script.{run, ends, records}
 use Rattle.reading.specs.Tex.{has_stamp, header_of, read_tex}
 use Rattle.nitro.specs.Calls.{Counts, reading_of}
-use Rattle.places.specs.declared.PaletteChoice.{PaletteChoice}
 use Rattle.decode.specs.Pictures.{picture_of}
-use Rattle.stream.specs.declared.shortness.Shortness.{Shortness}
-use Rattle.stream.specs.declared.shortness.Shortness.TheVariants.{Needs, Enough}
 
 -- Whether an answer is short, which is refusal 1, and then its want.
-abbrev pub shortness : {A : Type 0} → Outcome A → Shortness
-shortness (result a) = Enough
-shortness (refusal number returned) = cond (eqb number 1) (Needs returned) Enough
+abbrev pub shortness : {A : Type 0} → Outcome A → Option ℕ
+shortness (result a) = None
+shortness (refusal number returned) = cond (eqb number 1) (Some returned) None
 
 -- A call that takes a block and an output: what it answers, and the output that it leaves.
 pub record Call (A B : Type 0) : Type 0 where
@@ -22,9 +19,9 @@ pub record Call (A B : Type 0) : Type 0 where
   pub leaves : (block : List ℕ) (output : B) → B
 
 -- ".. until an answer isn't short or the want exceeds the block."
-abbrev pub Stops : (block : List ℕ) → Shortness → Type 0
-Stops block Enough = Unit {0}
-Stops block (Needs needed) = length block < needed
+abbrev pub Stops : (block : List ℕ) → Option ℕ → Type 0
+Stops block None = Unit {0}
+Stops block (Some needed) = length block < needed
 
 -- "The fetching run is a call over a whole block, ..: it reads the first 0 bytes, then as many as the last want, each attempt an early run
 -- lent those bytes alone, .. Each attempt gets the output as the one before left it." Here from an attempt that is lent `given` bytes and
@@ -39,9 +36,9 @@ Attempts call block given output (next ∷ later) last left =
     × Attempts call block next (call.leaves (take given block) output) later last left
 
 -- "Its result carries the last answer and how many answers were short, the last included if short": each attempt before the last was short.
-abbrev pub short_ones : (later : List ℕ) (last : Shortness) → ℕ
-short_ones later Enough = length later
-short_ones later (Needs needed) = length later + 1
+abbrev pub short_ones : (later : List ℕ) (last : Option ℕ) → ℕ
+short_ones later None = length later
+short_ones later (Some needed) = length later + 1
 
 -- "That count is defined from the block: of the lengths just listed, take those the full run tests, in the order of reading, up to a
 -- refusal or to the first that the block doesn't reach, which is included; the count is how many of them are larger than all before."
@@ -73,7 +70,7 @@ pub record Fetched {A B : Type 0} (call : Call A B) (block : List ℕ) (output :
 abbrev pub reading_call : Call Counts (Unit {0})
 reading_call = record { answer = λ block output. reading_of (run read_tex block); leaves = λ block output. output }
 
-abbrev pub picture_call : (n : ℕ) (choice : PaletteChoice) → Call ℕ (List ℕ)
+abbrev pub picture_call : (n : ℕ) (choice : Option ℕ) → Call ℕ (List ℕ)
 picture_call n choice = record {
   answer = λ block output. write_outcome (picture_of n choice (run read_tex block)) output;
   leaves = λ block output. write_output (picture_of n choice (run read_tex block)) output;
@@ -92,12 +89,12 @@ pub record FetchLaws : Type 0 where
   -- Demand 3: "A fetching run, for a reading or a picture, begins empty and is each time given bytes up to the want, until an answer isn't
   -- short or the want exceeds the block." There is such a run for every block, number, choice and output.
   pub reading_ends : (block : List ℕ) → Ran reading_call block 0 tt
-  pub picture_ends : (n : ℕ) (choice : PaletteChoice) (block output : List ℕ) → Ran (picture_call n choice) block 0 output
+  pub picture_ends : (n : ℕ) (choice : Option ℕ) (block output : List ℕ) → Ran (picture_call n choice) block 0 output
   -- "For every block, number, choice and output it ends in the full run's answer and output. Its result counts its short answers: ..": the one
   -- claim holds of every such run, with the count of its short answers.
   pub reading_comes : (block : List ℕ) (r : Ran reading_call block 0 tt)
       → Fetched reading_call block tt r.last r.left (short_ones r.later (shortness r.last))
-  pub picture_comes : (n : ℕ) (choice : PaletteChoice) (block output : List ℕ) (r : Ran (picture_call n choice) block 0 output)
+  pub picture_comes : (n : ℕ) (choice : Option ℕ) (block output : List ℕ) (r : Ran (picture_call n choice) block 0 output)
       → Fetched (picture_call n choice) block output r.last r.left (short_ones r.later (shortness r.last))
   -- 6 + 2t is reached without a texture and with one: a bound by the texture count that holds of all blocks is at least 6 there, and 8. It is not
   -- said that 6 + 2t is reached for every t.

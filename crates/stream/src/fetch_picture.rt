@@ -1,29 +1,34 @@
 // Fetching a picture: the call over a whole block, lent no more of it than an answer before has asked for.
 ghost use Rattle.std.specs.Prelude.{◌≤◌, length, take};
-ghost use Rattle.errors.specs.Refusal.{counted_outcome};
+ghost use Rattle.errors.specs.Refusal.{result_outcome};
 ghost use Rattle.output.specs.Output.{Writes};
 ghost use Rattle.scripts.specs.Script.{run};
 ghost use Rattle.reading.specs.Tex as Tex;
 ghost use Rattle.decode.specs.Pictures as Pictures;
 ghost use Rattle.stream.specs.Fetch.{Fetched, picture_call};
 
-use crate::shortness::{Shortness, counted_shortness};
+use crate::shortness::shortness;
 use decode::picture::picture;
-use errors::Counted;
-use places::PaletteChoice;
+use errors::Refusal;
 
 #[derive(Clone, Copy)]
 pub struct FetchedPicture {
     // The last answer.
-    pub picture: Counted,
+    pub picture: Result<usize, Refusal>,
     // How many answers were short, the last included.
     pub short_answers: usize,
 }
 
 // An attempt is lent the block's first `given` bytes alone, and the output as it stands.
-fn attempt(block: &[u8], given: usize, n: usize, choice: PaletteChoice, out: &mut [u8]) -> Counted
+fn attempt(
+    block: &[u8],
+    given: usize,
+    n: usize,
+    choice: Option<usize>,
+    out: &mut [u8],
+) -> Result<usize, Refusal>
     requires { given ≤ length block.now }
-    ensures { Writes (Pictures.picture_of n choice (run Tex.read_tex (take given block.now))) out.old (counted_outcome result) out.new }
+    ensures { Writes (Pictures.picture_of n choice (run Tex.read_tex (take given block.now))) out.old (result_outcome result) out.new }
 {
     picture(&block[..given], n, choice, out)
 }
@@ -33,24 +38,21 @@ fn attempt(block: &[u8], given: usize, n: usize, choice: PaletteChoice, out: &mu
 pub fn fetch_picture(
     block: &[u8],
     n: usize,
-    choice: PaletteChoice,
+    choice: Option<usize>,
     out: &mut [u8],
 ) -> FetchedPicture
-    ensures { Fetched (picture_call n choice) block.now out.old (counted_outcome result.picture) out.new result.short_answers }
+    ensures { Fetched (picture_call n choice) block.now out.old (result_outcome result.picture) out.new result.short_answers }
 {
     let len = block.len();
     let mut given: usize = 0;
     let mut short_answers: usize = 0;
     loop {
         let picture = attempt(block, given, n, choice, out);
-        let needed = match counted_shortness(picture) {
-            Shortness::Needs(needed) => needed,
-            Shortness::Enough => {
-                return FetchedPicture {
-                    picture,
-                    short_answers,
-                };
-            }
+        let Some(needed) = shortness(picture) else {
+            return FetchedPicture {
+                picture,
+                short_answers,
+            };
         };
         short_answers += 1;
         if needed > len {

@@ -5,7 +5,6 @@
 use cases::add_all;
 use decode::picture::picture;
 use nitro::tex;
-use places::PaletteChoice;
 use report::{counted, decimal, number, text};
 use stream_sums::{add_parts, palette, reading, texture};
 
@@ -13,7 +12,7 @@ use stream_sums::{add_parts, palette, reading, texture};
 #[derive(Clone, Copy)]
 pub struct Request {
     pub texture: usize,
-    pub choice: PaletteChoice,
+    pub choice: Option<usize>,
     // The output's length.
     pub room: usize,
 }

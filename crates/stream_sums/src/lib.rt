@@ -3,30 +3,30 @@
 #![tactic(auto)]
 
 use cases::{add, add_all};
-use errors::Status;
+use errors::Refusal;
 use name::Name;
 use nitro::tex;
-use nitro::tex::{Reading, TextureRecord};
+use nitro::tex::{Counts, TextureRecord};
 use report::{number, refused, text};
 use told::{alpha_number, wrap_number};
 
 // Prints an answer that holds nothing beside a refusal.
-fn status(s: Status) {
-    match s {
-        Status::Done => text(b" | ok"),
-        Status::Refused(refusal) => refused(refusal),
+fn status<T: Copy>(answer: Result<T, Refusal>) {
+    match answer {
+        Ok(_) => text(b" | ok"),
+        Err(refusal) => refused(refusal),
     }
 }
 
 // Prints the answer of a reading.
-pub fn reading(r: Reading) {
-    match r {
-        Reading::Counts(textures, palettes) => {
+pub fn reading(answer: Result<Counts, Refusal>) {
+    match answer {
+        Ok(counts) => {
             text(b" | ok");
-            number(textures as u64);
-            number(palettes as u64);
+            number(counts.textures as u64);
+            number(counts.palettes as u64);
         }
-        Reading::Refused(refusal) => refused(refusal),
+        Err(refusal) => refused(refusal),
     }
 }
 
@@ -59,20 +59,16 @@ fn add_record(sum: u64, record: TextureRecord) -> u64 {
 // Shows the record call's answer, and adds the record that stands beside it.
 pub fn texture(sum: u64, block: &[u8], n: usize) -> u64 {
     let answer = tex::texture(block, n);
-    let outcome = answer.status;
-    let record = answer.texture;
-    status(outcome);
-    add_record(sum, record)
+    status(answer);
+    add_record(sum, answer.unwrap_or_default())
 }
 
 // The same for a palette.
 pub fn palette(sum: u64, block: &[u8], n: usize) -> u64 {
     let answer = tex::palette(block, n);
-    let outcome = answer.status;
-    let record = answer.palette;
-    let name = record.name;
-    status(outcome);
-    add(add_name(sum, name), record.off as u64)
+    status(answer);
+    let record = answer.unwrap_or_default();
+    add(add_name(sum, record.name), record.off as u64)
 }
 
 // The sum with first data, second data and the palette block.

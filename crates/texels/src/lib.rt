@@ -7,7 +7,6 @@ ghost use Rattle.texels.specs.Texels as Texels;
 ghost use Rattle.texels.specs.Index as Index;
 
 use cursor::nth_u16;
-use util::cur::Peeked;
 
 // A colour's red level, five bits.
 pub fn red(rgb555: u16) -> u8
@@ -64,8 +63,8 @@ pub fn palette_color(pal: &[u8], off: u32, i: u16) -> u16
     ensures { result ≡ Texels.palette_color pal.now off i }
 {
     match nth_u16(pal, off as usize, i as u32) {
-        Peeked::Number(color) => color as u16,
-        Peeked::Short(_) => 0,
+        Ok(color) => color as u16,
+        Err(_) => 0,
     }
 }
 

@@ -1,6 +1,6 @@
 -- What the calls for other languages tell of an answer, in numbers and slices. An answer itself is the called function's: each definition here
 -- goes by the one in that function's contract. Assumes nothing.
-use Rattle.std.specs.Prelude.{ℕ, cond, List, ◌++◌, length, take, drop, replicate, eqb, leb}
+use Rattle.std.specs.Prelude.{ℕ, cond, List, ◌++◌, length, take, drop, replicate, eqb, leb, Option, None, Some}
 use Rattle.util.specs.Outcome.{Outcome, result, refusal, ◌>>=◌}
 use Rattle.nds.specs.declared.texture_formats.Alpha.{Alpha}
 use Rattle.nds.specs.declared.texture_formats.Alpha.TheVariants as alpha
@@ -14,10 +14,6 @@ use Rattle.nitro.specs.Calls.{Counts, reading_of, texture_of, palette_of, data1_
 use Rattle.places.specs.Sources.{places_of, pal_place_of}
 use Rattle.nitro.specs.declared.tex.TextureRecord.{TextureRecord}
 use Rattle.nitro.specs.declared.tex.PaletteRecord.{PaletteRecord}
-use Rattle.places.specs.declared.PaletteChoice.{PaletteChoice}
-use Rattle.places.specs.declared.PaletteChoice.TheVariants as choice
-use Rattle.places.specs.declared.PaletteOff.{PaletteOff}
-use Rattle.places.specs.declared.PaletteOff.TheVariants as off
 use Rattle.places.specs.declared.Place.{Place}
 use Rattle.decode.specs.Pictures.{sources, decoded, picture_of}
 
@@ -52,11 +48,8 @@ alpha_number alpha.Transparent = 1
 alpha_number alpha.Translucent = 2
 
 -- A palette is chosen by two numbers: of the first, 0 says that there is none, and any other that it is the second.
-abbrev pub choice_of : (has palette : ℕ) → PaletteChoice
-choice_of has palette = cond (eqb has 0) choice.None (choice.Number palette)
-
-abbrev pub off_of : (has palette : ℕ) → PaletteOff
-off_of has palette = cond (eqb has 0) off.None (off.At palette)
+abbrev pub choice_of : {A : Type 0} (has : ℕ) (palette : A) → Option A
+choice_of has palette = cond (eqb has 0) None (Some palette)
 
 -- A name by a slice of any length: its first 16 bytes, and zeros for those that it lacks.
 unfoldable pub name_of : List ℕ → List ℕ
@@ -116,12 +109,12 @@ len place = place.len
 
 unfoldable pub data1 : (block : List ℕ) (n : ℕ) → Outcome Place
 data1 block n = do
-  places ← places_of n choice.None block (run read_tex block)
+  places ← places_of n None block (run read_tex block)
   result (place_of places.data1.pos (data1_of n (run read_tex block)))
 
 unfoldable pub data2 : (block : List ℕ) (n : ℕ) → Outcome Place
 data2 block n = do
-  places ← places_of n choice.None block (run read_tex block)
+  places ← places_of n None block (run read_tex block)
   result (place_of places.data2.pos (data2_of n (run read_tex block)))
 
 unfoldable pub pal_block : (block : List ℕ) → Outcome Place
@@ -135,7 +128,7 @@ rows kind block = rows_of kind block (run read_tex block)
 
 -- Direct decoding, and a picture from a block: what goes to the output.
 abbrev pub decoding : (word : ℕ) (first second : List ℕ) (has off : ℕ) (colors : List ℕ) → Outcome (List ℕ)
-decoding word first second has off colors = decoded (sources word first second (off_of has off) colors)
+decoding word first second has off colors = decoded (sources word first second (choice_of has off) colors)
 
 abbrev pub picture : (block : List ℕ) (n has palette : ℕ) → Outcome (List ℕ)
 picture block n has palette = picture_of n (choice_of has palette) (run read_tex block)

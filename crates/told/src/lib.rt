@@ -3,16 +3,14 @@
 #![tactic(auto)]
 
 ghost use Rattle.std.specs.Prelude.{◌≡◌};
-ghost use Rattle.errors.specs.Refusal.{refusal_number, refusal_returned, counted_outcome};
-ghost use Rattle.nitro.specs.Calls.{reading_outcome};
+ghost use Rattle.errors.specs.Refusal.{refusal_number, refusal_returned, result_outcome};
 ghost use Rattle.rows.specs.Rows.{place_of};
 ghost use Rattle.told.specs.Told as Told;
 
-use errors::{Counted, Refusal};
+use errors::Refusal;
 use nds::texture_formats::Alpha;
 use nds::wrap::Wrap;
-use nitro::tex::Reading;
-use places::{PaletteChoice, PaletteOff};
+use nitro::tex::Counts;
 
 pub fn wrap_number(wrap: Wrap) -> u32
     ensures { result ≡ Told.wrap_number wrap }
@@ -34,26 +32,11 @@ pub fn alpha_number(alpha: Alpha) -> u32
     }
 }
 
-// The palette that a picture is to have: none where has_palette is 0.
-pub fn choice_of(has_palette: u32, palette: usize) -> PaletteChoice
+// The palette that is chosen, by its number for a picture and by its offset for a direct decoding: none where has_palette is 0.
+pub fn choice_of<T: Drop>(has_palette: u32, palette: T) -> Option<T>
     ensures { result ≡ Told.choice_of has_palette palette }
 {
-    if has_palette == 0 {
-        PaletteChoice::None
-    } else {
-        PaletteChoice::Number(palette)
-    }
-}
-
-// The palette that a direct decoding is given: none where has_palette is 0.
-pub fn off_of(has_palette: u32, palette_off: u32) -> PaletteOff
-    ensures { result ≡ Told.off_of has_palette palette_off }
-{
-    if has_palette == 0 {
-        PaletteOff::None
-    } else {
-        PaletteOff::At(palette_off)
-    }
+    (has_palette != 0).then_some(palette)
 }
 
 // The number of a refusal.
@@ -72,55 +55,55 @@ pub fn refuse(refusal: Refusal, needed: &mut usize) -> u32
 }
 
 // An answer with a length, of a call that is never short.
-pub fn tell_len(counted: Counted, len: &mut usize) -> u32
-    ensures value { result ≡ Told.code_of (counted_outcome counted) }
-    ensures len_after { len.new ≡ Told.left len.old Told.itself (counted_outcome counted) }
+pub fn tell_len(answer: Result<usize, Refusal>, len: &mut usize) -> u32
+    ensures value { result ≡ Told.code_of (result_outcome answer) }
+    ensures len_after { len.new ≡ Told.left len.old Told.itself (result_outcome answer) }
 {
-    match counted {
-        Counted::Count(written) => {
+    match answer {
+        Ok(written) => {
             *len = written;
             0
         }
-        Counted::Refused(refusal) => code(refusal),
+        Err(refusal) => code(refusal),
     }
 }
 
 // An answer with a length.
-pub fn tell_count(counted: Counted, len: &mut usize, needed: &mut usize) -> u32
-    ensures value { result ≡ Told.code_of (counted_outcome counted) }
-    ensures len_after { len.new ≡ Told.left len.old Told.itself (counted_outcome counted) }
-    ensures needed_after { needed.new ≡ Told.needed_of (counted_outcome counted) }
+pub fn tell_count(answer: Result<usize, Refusal>, len: &mut usize, needed: &mut usize) -> u32
+    ensures value { result ≡ Told.code_of (result_outcome answer) }
+    ensures len_after { len.new ≡ Told.left len.old Told.itself (result_outcome answer) }
+    ensures needed_after { needed.new ≡ Told.needed_of (result_outcome answer) }
 {
-    match counted {
-        Counted::Count(n) => {
+    match answer {
+        Ok(n) => {
             *len = n;
             *needed = 0;
             0
         }
-        Counted::Refused(refusal) => refuse(refusal, needed),
+        Err(refusal) => refuse(refusal, needed),
     }
 }
 
 // A reading's answer.
 pub fn tell_counts(
-    reading: Reading,
+    answer: Result<Counts, Refusal>,
     textures: &mut usize,
     palettes: &mut usize,
     needed: &mut usize,
 ) -> u32
-    ensures value { result ≡ Told.code_of (reading_outcome reading) }
-    ensures textures_after { textures.new ≡ Told.left textures.old Told.textures (reading_outcome reading) }
-    ensures palettes_after { palettes.new ≡ Told.left palettes.old Told.palettes (reading_outcome reading) }
-    ensures needed_after { needed.new ≡ Told.needed_of (reading_outcome reading) }
+    ensures value { result ≡ Told.code_of (result_outcome answer) }
+    ensures textures_after { textures.new ≡ Told.left textures.old Told.textures (result_outcome answer) }
+    ensures palettes_after { palettes.new ≡ Told.left palettes.old Told.palettes (result_outcome answer) }
+    ensures needed_after { needed.new ≡ Told.needed_of (result_outcome answer) }
 {
-    match reading {
-        Reading::Counts(t, p) => {
-            *textures = t;
-            *palettes = p;
+    match answer {
+        Ok(counts) => {
+            *textures = counts.textures;
+            *palettes = counts.palettes;
             *needed = 0;
             0
         }
-        Reading::Refused(refusal) => refuse(refusal, needed),
+        Err(refusal) => refuse(refusal, needed),
     }
 }
 

@@ -1,25 +1,17 @@
 -- Takes. Assumes nothing.
-use Rattle.std.specs.Prelude.{ℕ, ◌+◌, ◌^◌, cond, List, [], length, take, drop, leb}
+use Rattle.std.specs.Prelude.{ℕ, ◌+◌, ◌^◌, cond, List, [], length, take, drop, leb, Result, Ok, Err}
 use Rattle.util.specs.Number.{number_at}
 use Rattle.util.specs.Outcome.{Outcome, result, refusal}
 use Rattle.util.specs.declared.cur.Needed.{Needed}
-use Rattle.util.specs.declared.cur.Taken.{Taken}
-use Rattle.util.specs.declared.cur.Taken.TheVariants as taken
-use Rattle.util.specs.declared.cur.Peeked.{Peeked}
-use Rattle.util.specs.declared.cur.Peeked.TheVariants as peeked
 
 -- The number that a `Needed` stands for: 01's "want".
 abbrev pub length_of : Needed → ℕ
 length_of s = s.low + cond s.carry (2 ^ 64) 0
 
 -- 01's number and value of each case. 01, "When a call is declined": "take is short", number 1, returned "want": the length needed.
-abbrev pub taken_outcome : Taken → Outcome ℕ
-taken_outcome (taken.Whole end) = result end
-taken_outcome (taken.Short needed) = refusal 1 (length_of needed)
-
-abbrev pub peeked_outcome : Peeked → Outcome ℕ
-peeked_outcome (peeked.Number n) = result n
-peeked_outcome (peeked.Short needed) = refusal 1 (length_of needed)
+abbrev pub taken_outcome : {A : Type 0} → Result A Needed → Outcome A
+taken_outcome (Ok a) = result a
+taken_outcome (Err needed) = refusal 1 (length_of needed)
 
 -- 01, "Modules" 2: "A take of n bytes at p is short exactly if p + n, as an unbounded sum, exceeds the length; n = 0 passes at p equal
 -- to the length, not beyond." "Want is the length at which the failed take passes." On a block of `len` bytes a take that passes answers

@@ -1,8 +1,8 @@
 // Takes: some bytes at a position of a slice, or the length that the slice would need to hold them.
 //
-// An enum holds no reference, so a take is two calls: take_at says whether the bytes are there, and part_at of the crate cursor hands them out.
+// A take is two calls: take_at says whether the bytes are there, and part_at of the crate cursor hands them out.
 ghost use Rattle.std.specs.Prelude.{◌≡◌, ◌+◌, length};
-ghost use Rattle.util.specs.Take.{length_of, taken_outcome, peeked_outcome, take_of, peek_of};
+ghost use Rattle.util.specs.Take.{length_of, taken_outcome, take_of, peek_of};
 
 use crate::view::{view_u8, view_u16, view_u32};
 
@@ -11,19 +11,6 @@ use crate::view::{view_u8, view_u16, view_u32};
 pub struct Needed {
     pub low: usize,
     pub carry: bool,
-}
-
-#[derive(Clone, Copy)]
-pub enum Taken {
-    // The bytes are there, and end before this position.
-    Whole(usize),
-    Short(Needed),
-}
-
-#[derive(Clone, Copy)]
-pub enum Peeked {
-    Number(u32),
-    Short(Needed),
 }
 
 // The position behind n bytes at pos.
@@ -44,46 +31,40 @@ fn end_of(pos: usize, n: usize) -> Needed
     }
 }
 
-// Whether buf holds n bytes at pos. A take of 0 bytes passes at buf's end, and not beyond it.
-pub fn take_at(buf: &[u8], pos: usize, n: usize) -> Taken
+// The position behind n bytes at pos, where buf holds them. A take of 0 bytes passes at buf's end, and not beyond it.
+pub fn take_at(buf: &[u8], pos: usize, n: usize) -> Result<usize, Needed>
     ensures { taken_outcome result ≡ take_of (length buf.now) pos n (pos + n) }
 {
     let end = end_of(pos, n);
     if end.carry {
-        return Taken::Short(end);
+        return Err(end);
     }
     if buf.len() < end.low {
-        return Taken::Short(end);
+        return Err(end);
     }
-    Taken::Whole(end.low)
+    Ok(end.low)
 }
 
 // The number of 1 byte at pos.
-pub fn peek_u8(buf: &[u8], pos: usize) -> Peeked
-    ensures { peeked_outcome result ≡ peek_of 1 pos buf.now }
+pub fn peek_u8(buf: &[u8], pos: usize) -> Result<u32, Needed>
+    ensures { taken_outcome result ≡ peek_of 1 pos buf.now }
 {
-    match take_at(buf, pos, 1) {
-        Taken::Whole(_) => Peeked::Number(view_u8(buf, pos) as u32),
-        Taken::Short(needed) => Peeked::Short(needed),
-    }
+    take_at(buf, pos, 1)?;
+    Ok(view_u8(buf, pos) as u32)
 }
 
 // The little-endian number of 2 bytes at pos.
-pub fn peek_u16(buf: &[u8], pos: usize) -> Peeked
-    ensures { peeked_outcome result ≡ peek_of 2 pos buf.now }
+pub fn peek_u16(buf: &[u8], pos: usize) -> Result<u32, Needed>
+    ensures { taken_outcome result ≡ peek_of 2 pos buf.now }
 {
-    match take_at(buf, pos, 2) {
-        Taken::Whole(_) => Peeked::Number(view_u16(buf, pos) as u32),
-        Taken::Short(needed) => Peeked::Short(needed),
-    }
+    take_at(buf, pos, 2)?;
+    Ok(view_u16(buf, pos) as u32)
 }
 
 // The little-endian number of 4 bytes at pos.
-pub fn peek_u32(buf: &[u8], pos: usize) -> Peeked
-    ensures { peeked_outcome result ≡ peek_of 4 pos buf.now }
+pub fn peek_u32(buf: &[u8], pos: usize) -> Result<u32, Needed>
+    ensures { taken_outcome result ≡ peek_of 4 pos buf.now }
 {
-    match take_at(buf, pos, 4) {
-        Taken::Whole(_) => Peeked::Number(view_u32(buf, pos)),
-        Taken::Short(needed) => Peeked::Short(needed),
-    }
+    take_at(buf, pos, 4)?;
+    Ok(view_u32(buf, pos))
 }

@@ -3,7 +3,7 @@
 use mathlib.Core.Path.{◌≡◌}
 use native.Mathlib.Omega.{arith}
 use lib.ListN.{length}
-use Rattle.errors.specs.Refusal.{counted_outcome}
+use Rattle.errors.specs.Refusal.{result_outcome}
 use Rattle.errors.proofs.Refusals.{refusal_not}
 use Rattle.text.specs.Put.{Put}
 use borrow.Rule.Slice.PartMut.{put_mid}
@@ -14,7 +14,7 @@ use Rattle.lines.proofs.put_name.Goals as goal
 
 pub overflow_add-at : goal.overflow_add-at
 overflow_add-at c =
-    let wrote : PartWrote (safe_text c.args.name.0) c.args.out.now c.args.at (counted_outcome c.print_safe.result) c.print_safe.new.out = part_wrote _ _ _ (room_first _ _ c.requires) c.print_safe.ensures in
+    let wrote : PartWrote (safe_text c.args.name.0) c.args.out.now c.args.at (result_outcome c.print_safe.result) c.print_safe.new.out = part_wrote _ _ _ (room_first _ _ c.requires) c.print_safe.ensures in
     let first : let entry = c.args.out.now in
     let at = c.args.at in
     Put (safe_text c.args.name.0) entry at (put_mid at (length entry - at) entry c.print_safe.new.out) (at + c.in-Count.len) = let w = wrote in
@@ -25,7 +25,7 @@ overflow_add-at c =
 
 pub put-requires : goal.put-requires
 put-requires c =
-    let wrote : PartWrote (safe_text c.args.name.0) c.args.out.now c.args.at (counted_outcome c.print_safe.result) c.print_safe.new.out = part_wrote _ _ _ (room_first _ _ c.requires) c.print_safe.ensures in
+    let wrote : PartWrote (safe_text c.args.name.0) c.args.out.now c.args.at (result_outcome c.print_safe.result) c.print_safe.new.out = part_wrote _ _ _ (room_first _ _ c.requires) c.print_safe.ensures in
     let first : let entry = c.args.out.now in
     let at = c.args.at in
     Put (safe_text c.args.name.0) entry at (put_mid at (length entry - at) entry c.print_safe.new.out) (at + c.in-Count.len) = let w = wrote in
@@ -36,7 +36,7 @@ put-requires c =
 
 pub returns-in-Count : goal.returns-in-Count
 returns-in-Count c =
-    let wrote : PartWrote (safe_text c.args.name.0) c.args.out.now c.args.at (counted_outcome c.print_safe.result) c.print_safe.new.out = part_wrote _ _ _ (room_first _ _ c.requires) c.print_safe.ensures in
+    let wrote : PartWrote (safe_text c.args.name.0) c.args.out.now c.args.at (result_outcome c.print_safe.result) c.print_safe.new.out = part_wrote _ _ _ (room_first _ _ c.requires) c.print_safe.ensures in
     let first : let entry = c.args.out.now in
     let at = c.args.at in
     Put (safe_text c.args.name.0) entry at (put_mid at (length entry - at) entry c.print_safe.new.out) (at + c.in-Count.len) = let w = wrote in
@@ -47,5 +47,5 @@ returns-in-Count c =
 
 pub returns-in-Refused : goal.returns-in-Refused
 returns-in-Refused c =
-    let wrote : PartWrote (safe_text c.args.name.0) c.args.out.now c.args.at (counted_outcome c.print_safe.result) c.print_safe.new.out = part_wrote _ _ _ (room_first _ _ c.requires) c.print_safe.ensures in
+    let wrote : PartWrote (safe_text c.args.name.0) c.args.out.now c.args.at (result_outcome c.print_safe.result) c.print_safe.new.out = part_wrote _ _ _ (room_first _ _ c.requires) c.print_safe.ensures in
     absurd (refusal_not c.in-Refused.field-0 (rw c.in-Refused.is at (wrote).outcome))

@@ -3,7 +3,7 @@ use mathlib.Core.Path.{◌≡◌}
 use native.Mathlib.Omega.{arith}
 use lib.ListN.{length}
 use Rattle.util.specs.Outcome.{result}
-use Rattle.errors.specs.Refusal.{counted_outcome}
+use Rattle.errors.specs.Refusal.{result_outcome}
 use Rattle.errors.proofs.Refusals.{refusal_not}
 use Rattle.output.proofs.Outputs.{Wrote, wrote_counts, writes_whole}
 use Rattle.listing.specs.Listing.{listing_text}
@@ -13,7 +13,7 @@ use Rattle.listing.proofs.list_whole.Goals as goal
 pub returns-in-Count : goal.returns-in-Count
 returns-in-Count c =
     let written : let text = listing_text c.args.input.now in
-    (counted_outcome c.list.result ≡ result (length text)) × Wrote text c.args.out.now (length text) c.list.new.out = writes_whole _ _ (omega (arith, listing_fits c.args.input.now (λ k. omega (arith, c.shared_slice_known-1.given k)))) c.list.ensures in
+    (result_outcome c.list.result ≡ result (length text)) × Wrote text c.args.out.now (length text) c.list.new.out = writes_whole _ _ (omega (arith, listing_fits c.args.input.now (λ k. omega (arith, c.shared_slice_known-1.given k)))) c.list.ensures in
     let (told, wrote) = written in
     let text = listing_text c.args.input.now in
     let same : c.in-Count.len ≡ length text = cc (rw c.in-Count.is at told) in
@@ -25,5 +25,5 @@ returns-in-Count c =
 pub returns-in-Refused : goal.returns-in-Refused
 returns-in-Refused c =
     let written : let text = listing_text c.args.input.now in
-    (counted_outcome c.list.result ≡ result (length text)) × Wrote text c.args.out.now (length text) c.list.new.out = writes_whole _ _ (omega (arith, listing_fits c.args.input.now (λ k. omega (arith, c.shared_slice_known-1.given k)))) c.list.ensures in
+    (result_outcome c.list.result ≡ result (length text)) × Wrote text c.args.out.now (length text) c.list.new.out = writes_whole _ _ (omega (arith, listing_fits c.args.input.now (λ k. omega (arith, c.shared_slice_known-1.given k)))) c.list.ensures in
     absurd (refusal_not c.in-Refused.field-0 (rw c.in-Refused.is at (written).0))

@@ -4,7 +4,7 @@
 use mathlib.Core.Path.{refl, ap, ◌∙◌}
 use native.Mathlib.Omega.{arith}
 use lib.ListN.{length, take}
-use Rattle.errors.specs.Refusal.{counted_outcome}
+use Rattle.errors.specs.Refusal.{result_outcome}
 use Rattle.output.specs.Output.{write_outcome, write_output, Writes}
 use Rattle.scripts.specs.Script.{run}
 use Rattle.reading.specs.Tex.{read_tex}
@@ -27,7 +27,7 @@ shape_of-out-in-Enough c = omega (arith, ap length c.loop-needed.invariant.0)
 pub returns-in-Enough : goal.returns-in-Enough
 returns-in-Enough c =
     let attempted : let a = c.args in
-    Writes (picture_of a.n a.choice (run read_tex (take c.loop-needed.given a.block.now))) a.out.now (counted_outcome c.attempt-picture.result)
+    Writes (picture_of a.n a.choice (run read_tex (take c.loop-needed.given a.block.now))) a.out.now (result_outcome c.attempt-picture.result)
     c.attempt-picture.new.out = rw c.loop-needed.invariant.0 at c.attempt-picture.ensures in
     let a = c.args in
     let end =
@@ -45,7 +45,7 @@ shape_of-out-then-needed-len c = omega (arith, ap length c.loop-needed.invariant
 pub returns-then-needed-len : goal.returns-then-needed-len
 returns-then-needed-len c =
     let attempted : let a = c.args in
-    Writes (picture_of a.n a.choice (run read_tex (take c.loop-needed.given a.block.now))) a.out.now (counted_outcome c.attempt-picture.result)
+    Writes (picture_of a.n a.choice (run read_tex (take c.loop-needed.given a.block.now))) a.out.now (result_outcome c.attempt-picture.result)
     c.attempt-picture.new.out = rw c.loop-needed.invariant.0 at c.attempt-picture.ensures in
     let short-attempt : let a = c.args in
     Waiting (λ b. write_outcome (picture_of a.n a.choice (run read_tex b)) a.out.now)
@@ -53,7 +53,7 @@ returns-then-needed-len c =
     a.out.now
     a.block.now
     c.loop-needed.given
-    (counted_outcome c.attempt-picture.result)
+    (result_outcome c.attempt-picture.result)
     c.loop-needed.short_answers
     c.in-Needs.needed = let a = c.args in
     waiting (picture_scripted a.n a.choice a.out.now) (arriving.picture a.n a.choice a.out.now) _ c.loop-needed.invariant.1
@@ -65,7 +65,7 @@ returns-then-needed-len c =
 pub loop-needed-preserved : goal.loop-needed-preserved
 loop-needed-preserved c =
     let attempted : let a = c.args in
-    Writes (picture_of a.n a.choice (run read_tex (take c.loop-needed.given a.block.now))) a.out.now (counted_outcome c.attempt-picture.result)
+    Writes (picture_of a.n a.choice (run read_tex (take c.loop-needed.given a.block.now))) a.out.now (result_outcome c.attempt-picture.result)
     c.attempt-picture.new.out = rw c.loop-needed.invariant.0 at c.attempt-picture.ensures in
     let short-attempt : let a = c.args in
     Waiting (λ b. write_outcome (picture_of a.n a.choice (run read_tex b)) a.out.now)
@@ -73,7 +73,7 @@ loop-needed-preserved c =
     a.out.now
     a.block.now
     c.loop-needed.given
-    (counted_outcome c.attempt-picture.result)
+    (result_outcome c.attempt-picture.result)
     c.loop-needed.short_answers
     c.in-Needs.needed = let a = c.args in
     waiting (picture_scripted a.n a.choice a.out.now) (arriving.picture a.n a.choice a.out.now) _ c.loop-needed.invariant.1
@@ -85,7 +85,7 @@ loop-needed-preserved c =
 pub loop-needed-smaller : goal.loop-needed-smaller
 loop-needed-smaller c =
     let attempted : let a = c.args in
-    Writes (picture_of a.n a.choice (run read_tex (take c.loop-needed.given a.block.now))) a.out.now (counted_outcome c.attempt-picture.result)
+    Writes (picture_of a.n a.choice (run read_tex (take c.loop-needed.given a.block.now))) a.out.now (result_outcome c.attempt-picture.result)
     c.attempt-picture.new.out = rw c.loop-needed.invariant.0 at c.attempt-picture.ensures in
     let short-attempt : let a = c.args in
     Waiting (λ b. write_outcome (picture_of a.n a.choice (run read_tex b)) a.out.now)
@@ -93,7 +93,7 @@ loop-needed-smaller c =
     a.out.now
     a.block.now
     c.loop-needed.given
-    (counted_outcome c.attempt-picture.result)
+    (result_outcome c.attempt-picture.result)
     c.loop-needed.short_answers
     c.in-Needs.needed = let a = c.args in
     waiting (picture_scripted a.n a.choice a.out.now) (arriving.picture a.n a.choice a.out.now) _ c.loop-needed.invariant.1

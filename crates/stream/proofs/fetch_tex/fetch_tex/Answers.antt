@@ -5,7 +5,7 @@ use native.Mathlib.Omega.{arith}
 use lib.Seq.{length-take-le}
 use Rattle.scripts.specs.Script.{run}
 use Rattle.reading.specs.Tex.{read_tex}
-use Rattle.nitro.specs.Calls.{reading_of, reading_outcome}
+use Rattle.nitro.specs.Calls.{reading_of, result_outcome}
 use Rattle.stream.specs.Fetch.{reading_call}
 use Rattle.laws.specs.BlockCalls.{nothing}
 use Rattle.laws.proofs.Calls.{reading_scripted}
@@ -32,7 +32,7 @@ overflow_add-short_answers c = record { fits = omega (arith, c.loop-needed.invar
 pub returns-then-needed-len : goal.returns-then-needed-len
 returns-then-needed-len c =
     let short-attempt : Waiting (λ b. reading_of (run read_tex b)) nothing tt c.args.block.now c.loop-needed.given
-    (reading_outcome c.read_tex-reading.result)
+    (result_outcome c.read_tex-reading.result)
     c.loop-needed.short_answers
     c.in-Needs.needed = waiting reading_scripted arriving.read_tex_lem _ c.loop-needed.invariant c.read_tex-reading.ensures
     (rw c.in-Needs.is at c.reading_shortness.ensures) in
@@ -42,7 +42,7 @@ returns-then-needed-len c =
 pub loop-needed-preserved : goal.loop-needed-preserved
 loop-needed-preserved c =
     let short-attempt : Waiting (λ b. reading_of (run read_tex b)) nothing tt c.args.block.now c.loop-needed.given
-    (reading_outcome c.read_tex-reading.result)
+    (result_outcome c.read_tex-reading.result)
     c.loop-needed.short_answers
     c.in-Needs.needed = waiting reading_scripted arriving.read_tex_lem _ c.loop-needed.invariant c.read_tex-reading.ensures
     (rw c.in-Needs.is at c.reading_shortness.ensures) in
@@ -51,7 +51,7 @@ loop-needed-preserved c =
 pub loop-needed-smaller : goal.loop-needed-smaller
 loop-needed-smaller c =
     let short-attempt : Waiting (λ b. reading_of (run read_tex b)) nothing tt c.args.block.now c.loop-needed.given
-    (reading_outcome c.read_tex-reading.result)
+    (result_outcome c.read_tex-reading.result)
     c.loop-needed.short_answers
     c.in-Needs.needed = waiting reading_scripted arriving.read_tex_lem _ c.loop-needed.invariant c.read_tex-reading.ensures
     (rw c.in-Needs.is at c.reading_shortness.ensures) in
