@@ -34,7 +34,7 @@ fn show(block: &[u8]) {
     palettes(block, 1);
     palettes(block, 18446744073709551615);
     all_rows(block);
-    texts(tex::texture(block, 0).unwrap_or_default().name);
+    texts(tex::texture(block, 0).unwrap_or(tex::no_texture()).name);
 }
 
 // Shows the block whose length stands at pos, and answers where the next one begins, or the input's length where there is none.

@@ -76,7 +76,7 @@ pub fn textures(block: &[u8], n: usize) {
     number(n as u64);
     let answer = tex::texture(block, n);
     status(answer);
-    texture(answer.unwrap_or_default());
+    texture(answer.unwrap_or(tex::no_texture()));
     text(b"\ndata1");
     part(tex::texture_data1(block, n));
     text(b"\ndata2");
@@ -90,7 +90,7 @@ pub fn palettes(block: &[u8], n: usize) {
     number(n as u64);
     let answer = tex::palette(block, n);
     status(answer);
-    let record = answer.unwrap_or_default();
+    let record = answer.unwrap_or(tex::no_palette());
     number(record.off as u64);
     raw(record.name);
     text(b"\n");

@@ -12,7 +12,7 @@ ghost use Rattle.name.specs.Name as Text;
 
 use errors::Refusal;
 
-#[derive(Clone, Copy, Default)]
+#[derive(Clone, Copy)]
 pub struct Name(pub [u8; 16]);
 
 // A letter or digit as it is, and an underscore for any other byte.

@@ -8,10 +8,9 @@ use crate::texture_params::TextureParams;
 #[derive(Clone, Copy)]
 pub struct TextureFormat(pub u8);
 
-#[derive(Clone, Copy, Default)]
+#[derive(Clone, Copy)]
 pub enum Alpha {
     // Every texel is solid.
-    #[default]
     Opaque,
     // A texel is solid or clear.
     Transparent,

@@ -7,7 +7,7 @@ use crate::texture_formats::TextureFormat;
 use crate::wrap::{Wrap, wrap_axis};
 use util::bits::bits_u32;
 
-#[derive(Clone, Copy, Default)]
+#[derive(Clone, Copy)]
 pub struct TextureParams(pub u32);
 
 // Whether the bit of number k is set.

@@ -2,9 +2,8 @@
 ghost use Rattle.std.specs.Prelude.{◌≡◌};
 ghost use Rattle.nds.specs.Wrap.{wrap_of};
 
-#[derive(Clone, Copy, Default)]
+#[derive(Clone, Copy)]
 pub enum Wrap {
-    #[default]
     Clamp,
     Repeat,
     Mirror,

@@ -52,7 +52,7 @@ texture_of n a = texture_entry (λ t. texture_record t.name t.word) n a
 unfoldable pub palette_of : (n : ℕ) → Answer Contents → Outcome PaletteRecord
 palette_of n a = palette_entry (λ p. palette_record p.name p.off) n a
 
--- The records of a name of zeros, with the word 0 and the offset 0.
+-- The records that stand for those that a block does not have.
 abbrev pub no_name : List ℕ
 no_name = replicate 16 0
 

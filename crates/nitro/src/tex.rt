@@ -28,7 +28,7 @@ pub struct Counts {
     pub palettes: usize,
 }
 
-#[derive(Clone, Copy, Default)]
+#[derive(Clone, Copy)]
 pub struct TextureRecord {
     pub name: Name,
     pub params: TextureParams,
@@ -37,7 +37,7 @@ pub struct TextureRecord {
     pub alpha: Alpha,
 }
 
-#[derive(Clone, Copy, Default)]
+#[derive(Clone, Copy)]
 pub struct PaletteRecord {
     pub name: Name,
     // In bytes, from the palette block's start.
@@ -66,6 +66,23 @@ fn texture_record(name: Name, params: TextureParams) -> TextureRecord
         wrap_s: params.wrap_s(),
         wrap_t: params.wrap_t(),
         alpha: params.alpha_type(),
+    }
+}
+
+// What stands for the record of a texture that a block does not have: a name of zeros, and the word 0.
+pub fn no_texture() -> TextureRecord
+    ensures { result ≡ Calls.no_texture }
+{
+    texture_record(Name([0; 16]), TextureParams(0))
+}
+
+// What stands for the record of a palette that a block does not have: a name of zeros, and the offset 0.
+pub fn no_palette() -> PaletteRecord
+    ensures { result ≡ Calls.no_palette }
+{
+    PaletteRecord {
+        name: Name([0; 16]),
+        off: 0,
     }
 }
 

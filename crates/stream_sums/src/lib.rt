@@ -60,14 +60,14 @@ fn add_record(sum: u64, record: TextureRecord) -> u64 {
 pub fn texture(sum: u64, block: &[u8], n: usize) -> u64 {
     let answer = tex::texture(block, n);
     status(answer);
-    add_record(sum, answer.unwrap_or_default())
+    add_record(sum, answer.unwrap_or(tex::no_texture()))
 }
 
 // The same for a palette.
 pub fn palette(sum: u64, block: &[u8], n: usize) -> u64 {
     let answer = tex::palette(block, n);
     status(answer);
-    let record = answer.unwrap_or_default();
+    let record = answer.unwrap_or(tex::no_palette());
     add(add_name(sum, record.name), record.off as u64)
 }
 
