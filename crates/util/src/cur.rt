@@ -46,6 +46,7 @@ pub fn take_at(buf: &[u8], pos: usize, n: usize) -> Result<usize, Needed>
 }
 
 // The number of 1 byte at pos.
+#[tactic(auto, using(crate::proofs::Takes::passes, crate::proofs::Takes::took, crate::proofs::Takes::same_short))]
 pub fn peek_u8(buf: &[u8], pos: usize) -> Result<u32, Needed>
     ensures { taken_outcome result ≡ peek_of 1 pos buf.now }
 {
@@ -54,6 +55,7 @@ pub fn peek_u8(buf: &[u8], pos: usize) -> Result<u32, Needed>
 }
 
 // The little-endian number of 2 bytes at pos.
+#[tactic(auto, using(crate::proofs::Takes::passes, crate::proofs::Takes::took, crate::proofs::Takes::same_short))]
 pub fn peek_u16(buf: &[u8], pos: usize) -> Result<u32, Needed>
     ensures { taken_outcome result ≡ peek_of 2 pos buf.now }
 {
@@ -62,6 +64,7 @@ pub fn peek_u16(buf: &[u8], pos: usize) -> Result<u32, Needed>
 }
 
 // The little-endian number of 4 bytes at pos.
+#[tactic(auto, using(crate::proofs::Takes::passes, crate::proofs::Takes::took, crate::proofs::Takes::same_short))]
 pub fn peek_u32(buf: &[u8], pos: usize) -> Result<u32, Needed>
     ensures { taken_outcome result ≡ peek_of 4 pos buf.now }
 {
