@@ -9,33 +9,7 @@ ghost use Rattle.cursor.specs.Cursor.{bytes, taken_on};
 use util::cur::{Needed, take_at};
 use util::view::view_u16;
 
-// The n bytes at pos, as the part of buf that they occupy, or the empty part where buf is short.
-fn part_of(buf: &[u8], pos: usize, n: usize) -> &[u8]
-    ensures { result.now ≡ taken_part pos n buf.now }
-{
-    match take_at(buf, pos, n) {
-        Ok(end) => &buf[pos..end],
-        Err(_) => &buf[..0],
-    }
-}
-
-// The n-th number of 2 bytes from pos on, counted from 0.
-fn nth_u16_of(buf: &[u8], pos: usize, n: u32) -> Result<u32, Needed>
-    ensures { taken_outcome result ≡ peek_of 2 (pos + 2 * n) buf.now }
-{
-    let before = 2 * (n as usize);
-    take_at(buf, pos, before + 2)?;
-    Ok(view_u16(buf, pos + before) as u32)
-}
-
-// The position after a take of n bytes at pos: behind them, or pos where buf is short.
-fn pos_after(buf: &[u8], pos: usize, n: usize) -> usize
-    ensures { result ≡ taken_to (length buf.now) pos n }
-{
-    take_at(buf, pos, n).unwrap_or(pos)
-}
-
-// A slice and a position in it, which may be beyond the end. Its functions hold no test of their own: they call the functions above on the two.
+// A slice and a position in it, which may be beyond the end.
 #[derive(Clone, Copy)]
 pub struct Cur<'a> {
     pub buf: &'a [u8],
@@ -44,22 +18,29 @@ pub struct Cur<'a> {
 
 impl<'a> Cur<'a> {
     // The n-th number of 2 bytes from the position on, counted from 0. The position stays.
+    #[tactic(auto, using(util::proofs::Takes::passes, util::proofs::Takes::took, util::proofs::Takes::same_short))]
     pub fn nth_u16(self, n: u32) -> Result<u32, Needed>
         ensures { taken_outcome result ≡ peek_of 2 (self.entry.pos + 2 * n) (bytes self.entry) }
     {
-        nth_u16_of(self.buf, self.pos, n)
+        let before = 2 * (n as usize);
+        take_at(self.buf, self.pos, before + 2)?;
+        Ok(view_u16(self.buf, self.pos + before) as u32)
     }
 
     // The n bytes at the position, which moves behind them, as the part of the slice that they occupy. A short take hands out the empty part
     // and leaves the position.
+    #[tactic(auto, using(util::proofs::Takes::took, util::proofs::Takes::lacked, util::proofs::Takes::part_there, util::proofs::Takes::part_none, util::proofs::Takes::moves, util::proofs::Takes::stays))]
     pub fn next_n_u8s(&mut self, n: usize) -> &'a [u8]
         ensures { (result.now ≡ taken_part self.old.pos n (bytes self.old)) × (self.new ≡ taken_on self.old n) }
     {
-        let buf = self.buf;
-        let pos = self.pos;
-        let part = part_of(buf, pos, n);
-        self.pos = pos_after(buf, pos, n);
-        part
+        match take_at(self.buf, self.pos, n) {
+            Ok(end) => {
+                let part = &self.buf[self.pos..end];
+                self.pos = end;
+                part
+            }
+            Err(_) => &self.buf[..0],
+        }
     }
 }
 
