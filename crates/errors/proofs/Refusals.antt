@@ -1,9 +1,10 @@
 -- The laws of a refusal's outcome. Assumes nothing.
 use Prim.Native.Nat.{ℕ}
-use mathlib.Core.Path.{◌≡◌}
+use mathlib.Core.Path.{◌≡◌, ap}
 use native.Mathlib.Omega.{arith}
+use Rattle.std.specs.Prelude.{Result, Ok, Err, IsErrAnd}
 use Rattle.util.specs.Outcome.{Outcome, result, refusal}
-use Rattle.errors.specs.Refusal.{refusal_outcome}
+use Rattle.errors.specs.Refusal.{refusal_outcome, result_outcome}
 use Rattle.errors.specs.declared.Refusal.{Refusal}
 
 -- a refusal in the code is never a result, and is the same whatever would have been answered
@@ -13,3 +14,8 @@ refusal_not r e = let z : ◌≡◌ {A = ℕ} 0 1 = cc in omega arith
 pub refusal_any : {A B : Type 0} {k v : ℕ} (r : Refusal)
     → ◌≡◌ {A = Outcome A} (refusal_outcome r) (refusal k v) → ◌≡◌ {A = Outcome B} (refusal_outcome r) (refusal k v)
 refusal_any r e = cc
+
+-- a refusal that `?` passes on is the answer
+pub passed_on : {A : Type 0} (r : Result A Refusal) (e : Refusal) → IsErrAnd r (λ y. y ≡ e) → result_outcome r ≡ refusal_outcome e
+passed_on (Ok a) e h = absurd h
+passed_on (Err y) e h = ap refusal_outcome h

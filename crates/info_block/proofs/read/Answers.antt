@@ -5,6 +5,7 @@ use mathlib.Core.Path.{ap, sym, ◌∙◌}
 use native.Mathlib.Omega.{arith}
 use lib.ListN.{length}
 use Rattle.util.specs.Outcome.{result}
+use Rattle.errors.proofs.Refusals.{passed_on}
 use Rattle.scripts.specs.Script.{outcome_of}
 use Rattle.scripts.proofs.Runs.{take_within, refused}
 use Rattle.info_block.proofs.Lists.{head_follows, counted}
@@ -12,17 +13,16 @@ use Rattle.info_block.proofs.read.Goals as goal
 
 pub view_u8-c-requires : goal.view_u8-c-requires
 view_u8-c-requires c =
-    let there : let a = c.args in a.pos + 2 ≤ length a.block.now = omega (arith, take_within _ _ _ (rw c.in-Done.is at c.take.ensures)) in
+    let there : let a = c.args in a.pos + 2 ≤ length a.block.now = omega (arith, take_within _ _ _ c.in_ok-take.ensures) in
     omega (arith, there)
 
-pub returns-in-Refused : goal.returns-in-Refused
-returns-in-Refused c =
-    refused _ _ (head_follows _ _ _) _ _ c.in-Refused.refusal
-    (rw c.in-Refused.is at c.take.ensures)
+pub returns-in_err-take : goal.returns-in_err-take
+returns-in_err-take c =
+    passed_on _ _ c.from_residual.ensures.1 ∙ refused _ _ (head_follows _ _ _) _ _ _ c.in_err-take.ensures
 
-pub returns-in-Done : goal.returns-in-Done
-returns-in-Done c =
-    let there : let a = c.args in a.pos + 2 ≤ length a.block.now = omega (arith, take_within _ _ _ (rw c.in-Done.is at c.take.ensures)) in
+pub returns : goal.returns
+returns c =
+    let there : let a = c.args in a.pos + 2 ≤ length a.block.now = omega (arith, take_within _ _ _ c.in_ok-take.ensures) in
     let a = c.args in
     let count = sym c.view_u8-c.ensures in
     c.read_whole.ensures

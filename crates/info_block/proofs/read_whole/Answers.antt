@@ -5,6 +5,7 @@ use mathlib.Core.Path.{sym, ◌∙◌}
 use native.Mathlib.Omega.{arith}
 use lib.ListN.{length}
 use Rattle.info_block.specs.InfoBlock.{list_length}
+use Rattle.errors.proofs.Refusals.{passed_on}
 use Rattle.scripts.proofs.Runs.{take_within, whole_outcome, fault_outcome, refused}
 use Rattle.info_block.proofs.Lists.{data_small, list_follows, dummy_bad, size_bad, list_passes}
 use Rattle.info_block.proofs.read_whole.Goals as goal
@@ -26,7 +27,7 @@ view_u8-dummy-requires c =
     let there : let a = c.args in a.pos + list_length a.kind a.c ≤ length a.block.now = omega (
       arith,
       rw c.datum_size-size.ensures
-          at (take_within _ _ _ (rw c.in-Done.is at c.take.ensures)),
+          at (take_within _ _ _ c.in_ok-take.ensures),
     ) in
     omega (arith, there)
 
@@ -35,7 +36,7 @@ view_u16-size_of_datum-requires c =
     let there : let a = c.args in a.pos + list_length a.kind a.c ≤ length a.block.now = omega (
       arith,
       rw c.datum_size-size.ensures
-          at (take_within _ _ _ (rw c.in-Done.is at c.take.ensures)),
+          at (take_within _ _ _ c.in_ok-take.ensures),
     ) in
     omega (arith, there)
 
@@ -44,7 +45,7 @@ returns-then-dummy-ne0 c =
     let there : let a = c.args in a.pos + list_length a.kind a.c ≤ length a.block.now = omega (
       arith,
       rw c.datum_size-size.ensures
-          at (take_within _ _ _ (rw c.in-Done.is at c.take.ensures)),
+          at (take_within _ _ _ c.in_ok-take.ensures),
     ) in
     fault_outcome _ (dummy_bad _ _ _ _ (there) (λ e. c.if-dummy-ne0.true (c.view_u8-dummy.ensures ∙ e)))
 
@@ -53,23 +54,22 @@ returns-then-size_of_datum-size c =
     let there : let a = c.args in a.pos + list_length a.kind a.c ≤ length a.block.now = omega (
       arith,
       rw c.datum_size-size.ensures
-          at (take_within _ _ _ (rw c.in-Done.is at c.take.ensures)),
+          at (take_within _ _ _ c.in_ok-take.ensures),
     ) in
     fault_outcome _
     (size_bad _ _ _ _ (there) (omega (arith, c.view_u8-dummy.ensures))
     (λ e. c.if-size_of_datum-size.true (c.view_u16-size_of_datum.ensures ∙ (e ∙ sym c.datum_size-size.ensures))))
 
-pub returns-in-Refused : goal.returns-in-Refused
-returns-in-Refused c =
-    refused _ _ (list_follows _ _ _ _ (rw c.datum_size-size.ensures)) _ _ c.in-Refused.refusal
-    (rw c.in-Refused.is at c.take.ensures)
+pub returns-in_err-take : goal.returns-in_err-take
+returns-in_err-take c =
+    passed_on _ _ c.from_residual.ensures.1 ∙ refused _ _ (list_follows _ _ _ _ (rw c.datum_size-size.ensures)) _ _ _ c.in_err-take.ensures
 
-pub returns-else-size_of_datum-size : goal.returns-else-size_of_datum-size
-returns-else-size_of_datum-size c =
+pub returns : goal.returns
+returns c =
     let there : let a = c.args in a.pos + list_length a.kind a.c ≤ length a.block.now = omega (
       arith,
       rw c.datum_size-size.ensures
-          at (take_within _ _ _ (rw c.in-Done.is at c.take.ensures)),
+          at (take_within _ _ _ c.in_ok-take.ensures),
     ) in
     whole_outcome _
     (list_passes _ _ _ _ (there) (sym c.view_u8-dummy.ensures ∙ c.if-dummy-ne0.false)
