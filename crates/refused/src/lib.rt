@@ -14,6 +14,7 @@ use text::{put_field, put_number};
 pub const MAX_REFUSED: usize = 50;
 
 // The line of a refusal: its number and the value returned beside it. The caller shows that there is room.
+#[tactic(auto, using(text::proofs::Puts::puts), unfolding(text::specs::Text::line, text::specs::Text::ascii, crate::specs::Refused::refused_line))]
 pub fn put_refused(out: &mut [u8], at: usize, number: usize, returned: usize) -> usize
     requires { Room (refused_line number returned) out.old at }
     ensures { Put (refused_line number returned) out.old at out.new result }

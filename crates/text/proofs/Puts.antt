@@ -1,12 +1,11 @@
 -- The laws of texts that are put into an output one behind the other. Assumes nothing.
-use Prim.Native.Nat.{ℕ, ◌+◌, ◌-◌, ◌<◌}
+use Prim.Native.Nat.{ℕ, ◌+◌, ◌-◌}
 use mathlib.Core.Path.{◌≡◌, refl, ◌∙◌}
 use mathlib.Core.List.{List, [], ◌++◌, append-nil, append_assoc}
 use native.Mathlib.Nat.{add-zero, zero-add}
-use native.Mathlib.Numerals.{add-one}
 use native.Mathlib.Omega.{arith}
-use lib.ListN.{length, take, drop, set, get_or, length-append, length-drop}
-use lib.Seq.{take-suc, take_all, drop-drop, drop-length, length-take-le, sets, sets-eq, length-sets}
+use lib.ListN.{length, take, drop, length-append, length-drop}
+use lib.Seq.{take_all, drop-drop, drop-length, sets, sets-eq, length-sets}
 use borrow.Rule.Slice.PartMut.{mid_of, post_of, put_mid, Post-is}
 use Rattle.util.specs.Outcome.{Outcome, result}
 use Rattle.output.specs.Output.{Writes}
@@ -14,15 +13,23 @@ use Rattle.output.proofs.Outputs.{sets_append, Wrote, wrote_text, writes_fits, w
 use Rattle.text.specs.Text.{decimal}
 use Rattle.text.specs.Put.{Room, Put}
 
--- the first i bytes of a text
+-- nothing is put
 pub put_none : (entry : List ℕ) (at : ℕ) → Put [] entry at entry at
 put_none entry at = record { output = refl; behind = rw add-zero }
 
-pub put_byte : (text entry : List ℕ) (at i : ℕ) {out : List ℕ} → out ≡ sets entry at (take i text) → i < length text
-    → set out (at + i) (get_or text i 0) ≡ sets entry at (take (i + 1) text)
-put_byte text entry at i e h =
-    let n : length (take i text) ≡ i = length-take-le i text (omega arith) in
-    rw (e, add-one, take-suc text i 0 h, ← sets_append, n)
+-- a text that is copied over the output's part from the place on
+pub put_copy : (text entry : List ℕ) (at : ℕ) {part : List ℕ} → Room text entry at → part ≡ text
+    → Put text entry at (put_mid at (at + length text - at) entry part) (at + length text)
+put_copy text entry at r same =
+    let long : at + length text - at ≡ length text = omega arith in
+    record { output = rw (long, same, drop-drop, sets-eq text entry at r.fits, append_assoc); behind = refl }
+
+-- one text behind the other, and both at once
+pub sets_both : (entry : List ℕ) (at : ℕ) (text more : List ℕ) → sets entry at (text ++ more) ≡ sets (sets entry at text) (at + length text) more
+sets_both entry at text more = rw sets_append
+
+-- for functions that put one text behind the other
+pub ruleset puts = (sets_both, length-append, length-sets)
 
 pub room_first : (text more : List ℕ) {entry : List ℕ} {at : ℕ} → Room (text ++ more) entry at → Room text entry at
 room_first text more r = record { fits = omega (arith, r.fits, length-append text more) }

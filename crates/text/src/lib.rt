@@ -6,19 +6,18 @@ ghost use Rattle.std.specs.Prelude.{◌++◌};
 ghost use Rattle.text.specs.Text.{decimal};
 ghost use Rattle.text.specs.Put.{Room, Put};
 
+#[tactic(auto, using(crate::proofs::Puts::put_copy))]
 pub fn put(out: &mut [u8], at: usize, text: &[u8]) -> usize
     requires { Room text.now out.old at }
     ensures { Put text.now out.old at out.new result }
 {
-    let mut i = 0;
-    while i < text.len() {
-        out[at + i] = text[i];
-        i += 1;
-    }
-    at + text.len()
+    let end = at + text.len();
+    out[at..end].copy_from_slice(text);
+    end
 }
 
 // A field, and the space or line end behind it.
+#[tactic(auto, using(crate::proofs::Puts::puts))]
 pub fn put_field(out: &mut [u8], at: usize, text: &[u8], end: &[u8]) -> usize
     requires { Room (text.now ++ end.now) out.old at }
     ensures { Put (text.now ++ end.now) out.old at out.new result }
@@ -28,6 +27,7 @@ pub fn put_field(out: &mut [u8], at: usize, text: &[u8], end: &[u8]) -> usize
 }
 
 // A number in decimal, and the space or line end behind it.
+#[tactic(auto, using(crate::proofs::Decimals::decimal_digits))]
 pub fn put_number(out: &mut [u8], at: usize, n: usize, end: &[u8]) -> usize
     requires { Room (decimal n ++ end.now) out.old at }
     ensures { Put (decimal n ++ end.now) out.old at out.new result }
