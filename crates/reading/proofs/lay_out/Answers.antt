@@ -2,6 +2,7 @@
 -- what is known once the header is read, the palette block is there, and the textures are read
 use mathlib.Core.Path.{◌≡◌, ap, sym, ◌∙◌}
 use lib.ListN.{length}
+use Rattle.errors.proofs.Refusals.{passed_on}
 use Rattle.scripts.specs.Script.{run, whole}
 use Rattle.reading.specs.Tex.{read_header, read_pal_block, read_textures}
 use Rattle.reading.specs.Layouts.{layout_answer}
@@ -10,48 +11,48 @@ use Rattle.reading.proofs.Readings.{header_whole, read_header_follows, read_pal_
 use Rattle.reading.proofs.Readings.{read_palettes_follows, read_whole}
 use Rattle.reading.proofs.lay_out.Goals as goal
 
-pub returns-in-Refused : goal.returns-in-Refused
+pub returns-in_err-header : goal.returns-in_err-header
 unfolding layout_answer
-returns-in-Refused c =
-    refused _ _ (read_header_follows _) (λ h. h) _ c.in-Refused.refusal
-    (rw c.in-Refused.is at c.read_header.ensures)
+returns-in_err-header c =
+    passed_on _ _ c.from_residual.ensures.1
+    ∙ refused _ _ (read_header_follows _) (λ h. h) _ _ c.in_err-header.ensures
 
-pub returns-in-Refused-take_pal_block : goal.returns-in-Refused-take_pal_block
+pub returns-in_err-take_pal_block : goal.returns-in_err-take_pal_block
 unfolding layout_answer
-returns-in-Refused-take_pal_block c =
-    let header : run read_header c.args.block.now ≡ whole c.in-Found.header = let e = ended _ (λ h. h) (rw c.in-Found.is at c.read_header.ensures) in
+returns-in_err-take_pal_block c =
+    let header : run read_header c.args.block.now ≡ whole c.in_ok-header.header = let e = ended _ (λ h. h) c.in_ok-header.ensures in
     e.is ∙ ap whole (sym e.gives) in
-    refused _ _ (read_pal_block_follows _ (header)) _ _ c.in-Refused-take_pal_block.refusal
-    (rw c.in-Refused-take_pal_block.is at c.take_pal_block.ensures)
+    passed_on _ _ c.from_residual-in_err-take_pal_block.ensures.1
+    ∙ refused _ _ (read_pal_block_follows _ (header)) _ _ _ c.in_err-take_pal_block.ensures
 
-pub returns-in-Refused-read_textures : goal.returns-in-Refused-read_textures
+pub returns-in_err-textures : goal.returns-in_err-textures
 unfolding layout_answer
-returns-in-Refused-read_textures c =
-    let header : run read_header c.args.block.now ≡ whole c.in-Found.header = let e = ended _ (λ h. h) (rw c.in-Found.is at c.read_header.ensures) in
+returns-in_err-textures c =
+    let header : run read_header c.args.block.now ≡ whole c.in_ok-header.header = let e = ended _ (λ h. h) c.in_ok-header.ensures in
     e.is ∙ ap whole (sym e.gives) in
-    let pal_block_lem : Ended (run (read_pal_block c.in-Found.header) c.args.block.now) (λ _. tt {0}) (tt {0}) = ended _ _ (rw c.in_default.is at c.take_pal_block.ensures) in
-    refused _ _ (read_textures_follows _ (header) (pal_block_lem).is) _ _ c.in-Refused-read_textures.refusal
-    (rw c.in-Refused-read_textures.is at c.read_textures.ensures)
+    let pal_block_lem : Ended (run (read_pal_block c.in_ok-header.header) c.args.block.now) (λ _. tt {0}) (tt {0}) = ended _ _ c.in_ok-take_pal_block.ensures in
+    passed_on _ _ c.from_residual-in_err-textures.ensures.1
+    ∙ refused _ _ (read_textures_follows _ (header) (pal_block_lem).is) _ _ _ c.in_err-textures.ensures
 
-pub returns-in-Count-read_palettes : goal.returns-in-Count-read_palettes
+pub returns : goal.returns
 unfolding layout_answer
-returns-in-Count-read_palettes c =
-    let header : run read_header c.args.block.now ≡ whole c.in-Found.header = let e = ended _ (λ h. h) (rw c.in-Found.is at c.read_header.ensures) in
+returns c =
+    let header : run read_header c.args.block.now ≡ whole c.in_ok-header.header = let e = ended _ (λ h. h) c.in_ok-header.ensures in
     e.is ∙ ap whole (sym e.gives) in
-    let pal_block_lem : Ended (run (read_pal_block c.in-Found.header) c.args.block.now) (λ _. tt {0}) (tt {0}) = ended _ _ (rw c.in_default.is at c.take_pal_block.ensures) in
-    let textures : Ended (run (read_textures c.in-Found.header) c.args.block.now) length
-    c.in-Count.textures = ended _ _ (rw c.in-Count.is at c.read_textures.ensures) in
-    let palettes = ended _ _ (rw c.in-Count-read_palettes.is at c.read_palettes.ensures) in
+    let pal_block_lem : Ended (run (read_pal_block c.in_ok-header.header) c.args.block.now) (λ _. tt {0}) (tt {0}) = ended _ _ c.in_ok-take_pal_block.ensures in
+    let textures : Ended (run (read_textures c.in_ok-header.header) c.args.block.now) length
+    c.in_ok-textures.textures = ended _ _ c.in_ok-textures.ensures in
+    let palettes = ended _ _ c.in_ok-palettes.ensures in
     rw (header_whole _ (header), (textures).gives, palettes.gives)
     (whole_outcome _ (read_whole _ (header) (pal_block_lem).is (textures).is palettes.is))
 
-pub returns-in-Refused-read_palettes : goal.returns-in-Refused-read_palettes
+pub returns-in_err-palettes : goal.returns-in_err-palettes
 unfolding layout_answer
-returns-in-Refused-read_palettes c =
-    let header : run read_header c.args.block.now ≡ whole c.in-Found.header = let e = ended _ (λ h. h) (rw c.in-Found.is at c.read_header.ensures) in
+returns-in_err-palettes c =
+    let header : run read_header c.args.block.now ≡ whole c.in_ok-header.header = let e = ended _ (λ h. h) c.in_ok-header.ensures in
     e.is ∙ ap whole (sym e.gives) in
-    let pal_block_lem : Ended (run (read_pal_block c.in-Found.header) c.args.block.now) (λ _. tt {0}) (tt {0}) = ended _ _ (rw c.in_default.is at c.take_pal_block.ensures) in
-    let textures : Ended (run (read_textures c.in-Found.header) c.args.block.now) length
-    c.in-Count.textures = ended _ _ (rw c.in-Count.is at c.read_textures.ensures) in
-    refused _ _ (read_palettes_follows _ (header) (pal_block_lem).is (textures).is) _ _ c.in-Refused-read_palettes.refusal
-    (rw c.in-Refused-read_palettes.is at c.read_palettes.ensures)
+    let pal_block_lem : Ended (run (read_pal_block c.in_ok-header.header) c.args.block.now) (λ _. tt {0}) (tt {0}) = ended _ _ c.in_ok-take_pal_block.ensures in
+    let textures : Ended (run (read_textures c.in_ok-header.header) c.args.block.now) length
+    c.in_ok-textures.textures = ended _ _ c.in_ok-textures.ensures in
+    passed_on _ _ c.from_residual-in_err-palettes.ensures.1
+    ∙ refused _ _ (read_palettes_follows _ (header) (pal_block_lem).is (textures).is) _ _ _ c.in_err-palettes.ensures

@@ -4,6 +4,7 @@ use Prim.Native.Nat.{suc, ◌+◌, ◌-◌}
 use mathlib.Core.Path.{◌≡◌, ap, sym, ◌∙◌}
 use native.Mathlib.Numerals.{add-one}
 use native.Mathlib.Omega.{arith}
+use Rattle.errors.proofs.Refusals.{passed_on}
 use Rattle.reading.specs.Layouts.{counting, each_texture}
 use Rattle.scripts.proofs.Runs.{ended, each_turn, each_none, each_count, each_follows, follows_trans, refused}
 use Rattle.reading.proofs.Readings.{texture_follows, texture_read}
@@ -16,17 +17,17 @@ loop-i-init c =
     let e : a.count - 0 ≡ a.count = omega arith in
     (omega arith, ap (row a.block.now a.header a.count 0) e ∙ each_count _ _ a.count)
 
-pub returns-in-Refused : goal.returns-in-Refused
-returns-in-Refused c =
+pub returns-in_err-take_data : goal.returns-in_err-take_data
+returns-in_err-take_data c =
     let unrolled : let a = c.args in
     row a.block.now a.header a.count c.loop-i.i (suc (a.count - (c.loop-i.i + 1)))
     ≡ counting (each_texture a.header a.count a.block.now) a.block.now = let a = c.args in
     let e : suc (a.count - (c.loop-i.i + 1)) ≡ a.count - c.loop-i.i = omega arith in
     ap (row a.block.now a.header a.count c.loop-i.i) e ∙ c.loop-i.invariant.1 in
     let a = c.args in
-    refused _ _ (follows_trans (texture_follows a.header _ _ _) (each_follows (script a.block.now a.header a.count) _ _ _)) _ _
-    c.in-Refused.refusal
-    (rw (c.params_at-params.ensures, c.in-Refused.is) at c.take_data.ensures)
+    passed_on _ _ c.from_residual.ensures.1
+    ∙ refused _ _ (follows_trans (texture_follows a.header _ _ _) (each_follows (script a.block.now a.header a.count) _ _ _)) _ _ _
+    (rw c.params_at-params.ensures at c.in_err-take_data.ensures)
     ∙ unrolled
 
 pub loop-i-preserved : goal.loop-i-preserved
@@ -38,7 +39,7 @@ loop-i-preserved c =
     ap (row a.block.now a.header a.count c.loop-i.i) e ∙ c.loop-i.invariant.1 in
     let a = c.args in
     let i = c.loop-i.i in
-    let there = ended _ _ (rw (c.params_at-params.ensures, c.in_default.is) at c.take_data.ensures) in
+    let there = ended _ _ (rw c.params_at-params.ensures at c.in_ok-take_data.ensures) in
     let turn = each_turn (script a.block.now a.header a.count) a.block.now i (a.count - (i + 1)) a.count
     (texture_read a.header _ i _ there.is) in
     (omega arith, ap (λ k. row a.block.now a.header a.count k (a.count - (i + 1))) (add-one i) ∙ (sym turn ∙ unrolled))
