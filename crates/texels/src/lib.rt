@@ -59,6 +59,7 @@ pub fn rgb555a5(rgb555: u16, a5: u8) -> [u8; 4]
 }
 
 // Colour i of the palette at off, or 0 where it is not wholly inside the palette block.
+#[tactic(auto, using(util::proofs::Takes::took, util::proofs::Takes::lacked, util::proofs::Numbers::number_small), unfolding(crate::specs::Texels::palette_color))]
 pub fn palette_color(pal: &[u8], off: u32, i: u16) -> u16
     ensures { result ≡ Texels.palette_color pal.now off i }
 {
