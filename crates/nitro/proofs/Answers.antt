@@ -14,13 +14,12 @@ use Rattle.errors.specs.Refusal.{absent_number, refusal_outcome}
 use Rattle.errors.specs.declared.Kind.{Kind}
 use Rattle.errors.specs.declared.Kind.TheVariants as kinds
 use Rattle.errors.specs.declared.Refusal.{Refusal}
-use Rattle.errors.specs.declared.Status.TheVariants.{Done, Refused}
 use Rattle.errors.proofs.Refusals.{refusal_not, refusal_any}
 use Rattle.scripts.specs.Script.{Answer, short, fault, whole, run, outcome_of}
 use Rattle.info_block.specs.InfoBlock.{list_at, list_length}
 use Rattle.reading.specs.Tex as Tex
 use Rattle.reading.specs.Tex.{Contents, header_of, read_tex}
-use Rattle.nitro.specs.Calls.{Answers, entry, texture_entry, palette_entry, value_or, reading_of, texture_of, part_of, data1_of, data2_of, pal_block_of}
+use Rattle.nitro.specs.Calls.{entry, texture_entry, palette_entry, reading_of, texture_of, part_of, data1_of, data2_of, pal_block_of}
 use Rattle.reading.specs.Layouts.{layout_of, layout_answer, LaidOut}
 use Rattle.layout.specs.Positions.{count_of}
 use Rattle.nitro.specs.ByLayout.{layout_with}
@@ -65,14 +64,6 @@ unfolding reading_of pal_block_of outcome_of
 declined_pal_block (short w) e = refl
 declined_pal_block (fault found) e = refl
 declined_pal_block (whole c) e = let z : ◌≡◌ {A = ℕ} 0 1 = cc in absurd (omega arith)
-
--- a status with its record beside it
-module _ {A : Type 0} (blank : A) {answer : Outcome A} {beside : A} where
-  pub answers_done : result beside ≡ answer → Answers blank answer Done beside
-  answers_done e = record { outcome = e; value = ap (value_or blank) e }
-
-  pub answers_refused : (r : Refusal) → beside ≡ blank → refusal_outcome r ≡ answer → Answers blank answer (Refused r) beside
-  answers_refused r b e = record { outcome = e; value = b ∙ ap (value_or blank) e }
 
 -- a layout that was found: the reading finished, and its list has the entry
 pub record Found (k : Kind) (n : ℕ) (b : List ℕ) (a : Answer Contents) (l : Layout) : Type 0 where

@@ -7,18 +7,18 @@ use Rattle.nitro.proofs.tex.texture_data2.Goals as goal
 
 pub params_at-params-requires : goal.params_at-params-requires
 params_at-params-requires c =
-    let there : let a = c.args in TextureFound a.n a.block.now c.in-Found.layout = texture_found _ _ (rw c.in-Found.is at c.find.ensures) in
+    let there : let a = c.args in TextureFound a.n a.block.now c.in-Ok.layout = texture_found _ _ (rw c.in-Ok.is at c.find.ensures) in
     let t = there in (omega (arith, t.within), omega (arith, t.below))
 
-pub returns-in-Found : goal.returns-in-Found
+pub returns-in-Ok : goal.returns-in-Ok
 unfolding data2_of
-returns-in-Found c =
-    let there : let a = c.args in TextureFound a.n a.block.now c.in-Found.layout = texture_found _ _ (rw c.in-Found.is at c.find.ensures) in
+returns-in-Ok c =
+    let there : let a = c.args in TextureFound a.n a.block.now c.in-Ok.layout = texture_found _ _ (rw c.in-Ok.is at c.find.ensures) in
     let t = there in
     c.part_at.ensures
     ∙ (rw (c.data2_pos.ensures.0, c.byte_len2.ensures, c.params_at-params.ensures) (sym t.at.parts.second)
     ∙ ap part_of (t.entry (λ x. x.parts.data2)))
 
-pub returns-in-Refused : goal.returns-in-Refused
+pub returns-in-Err : goal.returns-in-Err
 unfolding data2_of
-returns-in-Refused c = ap part_of (no_texture_lem _ _ _ c.in-Refused.field-0 (rw c.in-Refused.is at c.find.ensures))
+returns-in-Err c = ap part_of (no_texture_lem _ _ _ c.in-Err.field-0 (rw c.in-Err.is at c.find.ensures))
