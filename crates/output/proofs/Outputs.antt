@@ -24,6 +24,15 @@ sets_append l p (x ∷ xs) ys = rw (add-suc, ← suc-add) (sets_append (set l p 
 pub sets_start : (text entry : List ℕ) → length text ≤ length entry → sets entry 0 text ≡ text ++ drop (length text) entry
 sets_start text entry h = sets-eq text entry 0 (omega arith) ∙ rw zero-add
 
+-- where there is room for a text: what is answered, and what is left
+pub outcome_there : (text entry : List ℕ) → length text ≤ length entry → write_outcome (result text) entry ≡ result (length text)
+unfolding write_outcome
+outcome_there text entry h = rw (le-leb _ _ h)
+
+pub output_there : (text entry : List ℕ) → length text ≤ length entry → write_output (result text) entry ≡ sets entry 0 text
+unfolding write_output
+output_there text entry h = rw (le-leb _ _ h, sets_start text entry h)
+
 -- an output, `entry` at first and `now` after the text was written to its first `end` bytes
 pub record Wrote (text entry : List ℕ) (end : ℕ) (now : List ℕ) : Type 0 where
   pub fits : length text ≤ length entry

@@ -25,6 +25,7 @@ pub fn put_refused(out: &mut [u8], at: usize, number: usize, returned: usize) ->
 }
 
 // Writes the line to an output that has room for every such line, and returns its length in bytes.
+#[tactic(auto, using(crate::proofs::Lengths::refused_length, text::proofs::Puts::whole))]
 pub fn write_refused(number: usize, returned: usize, out: &mut [u8; MAX_REFUSED]) -> usize
     ensures value { Writes (answered (refused_line number returned)) out.old (answered result) out.new }
     ensures in_bounds { IsPrefixLen result out.new }

@@ -4,12 +4,12 @@ use mathlib.Core.Path.{◌≡◌, refl, ◌∙◌}
 use mathlib.Core.List.{List, [], ◌++◌, append-nil, append_assoc}
 use native.Mathlib.Nat.{add-zero, zero-add}
 use native.Mathlib.Omega.{arith}
-use lib.ListN.{length, take, drop, length-append, length-drop}
+use lib.ListN.{length, take, drop, length-append, length-drop, length-take}
 use lib.Seq.{take_all, drop-drop, drop-length, sets, sets-eq, length-sets}
 use borrow.Rule.Slice.PartMut.{mid_of, post_of, put_mid, Post-is}
 use Rattle.util.specs.Outcome.{Outcome, result}
 use Rattle.output.specs.Output.{Writes}
-use Rattle.output.proofs.Outputs.{sets_append, Wrote, wrote_text, writes_fits, writes_whole}
+use Rattle.output.proofs.Outputs.{sets_append, outcome_there, output_there, Wrote, wrote_text, writes_fits, writes_whole}
 use Rattle.text.specs.Text.{decimal}
 use Rattle.text.specs.Put.{Room, Put}
 
@@ -71,6 +71,9 @@ part_wrote text entry at r w =
     let none : post_of at (length entry - at) entry ≡ [] = Post-is at (length entry) entry (omega (arith, r.fits)) ∙ drop-length entry in
     let (told, wrote) = writes_whole text (drop at entry) (rw length-drop (omega (arith, r.fits))) (rw all at w) in
     record { outcome = told; output = rw (wrote.holds, none, append-nil, drop-drop, sets-eq text entry at r.fits, append_assoc) }
+
+-- for functions that write a text at the start of an output
+pub ruleset whole = (outcome_there, output_there, length-sets, length-take)
 
 -- a text at the start of the output
 module _ {text entry exit : List ℕ} {end : ℕ} (r : Room text entry 0) (p : Put text entry 0 exit end) where
