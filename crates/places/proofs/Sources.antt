@@ -9,7 +9,7 @@ use lib.ListN.{length, get_or, take}
 use lib.Dec.{ltb}
 use borrow.Author.Tests.{ltb-true, ltb-false}
 use Rattle.util.specs.Outcome.{Outcome, result, refusal, ◌>>=◌}
-use Rattle.errors.specs.Refusal.{absent_number, refusal_outcome}
+use Rattle.errors.specs.Refusal.{refusal_outcome}
 use Rattle.errors.specs.declared.Kind.TheVariants as kinds
 use Rattle.errors.specs.declared.Refusal.{Refusal}
 use Rattle.errors.proofs.Refusals.{refusal_not, refusal_any}
@@ -21,7 +21,7 @@ use Rattle.nitro.specs.Calls.{entry, texture_entry, part_of, data1_of, data2_of,
 use Rattle.places.specs.Sources.{Sources, chosen_of, sources_of, sources_at, places_at, places_of, part_at, pal_place_at, pal_place_of}
 use Rattle.reading.specs.Layouts.{layout_of}
 use Rattle.nitro.specs.ByLayout.{layout_with}
-use Rattle.places.specs.ByLayout.{has_choice, chosen_at, places_by}
+use Rattle.places.specs.ByLayout.{chosen_by, places_by}
 use Rattle.layout.specs.declared.Header.{Header}
 use Rattle.layout.specs.declared.Layout.{Layout}
 use Rattle.places.specs.declared.Place.{Place}
@@ -38,22 +38,20 @@ placed_part b e =
     rw o.gives (sym (pal_block_whole _ b (finished b o.is).pal_block_lem) ∙ ap part_of (whole_outcome _ o.is))
 
 -- the chosen palette of a finished reading, by the layout
-module _ (b : List ℕ) {c : Contents} (is : run read_tex b ≡ whole c) where
-  chosen_there : (choice : Option ℕ) → has_choice (layout_of b c) choice ≡ true
-      → chosen_of choice c.palettes ≡ result (chosen_at b (layout_of b c) choice)
-  unfolding chosen_of
-  chosen_there None e = refl
-  chosen_there (Some k) e =
-      let below = ltb-true k (length c.palettes) e in
-      entry_in kinds.Palette (λ p. Some p.off) c.palettes k blank_palette below
-      ∙ ap (λ (p : Tex.Palette). result (Some p.off))
-      ((palettes_listed (header_of (take 60 b)) b (finished b is).palettes).at k blank_palette below)
-
-  chosen_absent : (choice : Option ℕ) → has_choice (layout_of b c) choice ≡ false
-      → chosen_of choice c.palettes ≡ refusal (absent_number kinds.Palette) 0
-  unfolding chosen_of
-  chosen_absent None e = let z : ◌≡◌ {A = ℕ} 0 1 = cc in absurd (omega arith)
-  chosen_absent (Some k) e = entry_out kinds.Palette _ c.palettes k (ltb-false k (length c.palettes) e)
+chosen_there : (b : List ℕ) {c : Contents} → run read_tex b ≡ whole c → (choice : Option ℕ)
+    → chosen_of choice c.palettes ≡ chosen_by b (layout_of b c) choice
+unfolding chosen_of chosen_by
+chosen_there b is None = refl
+chosen_there b {c} is (Some k) = go (ltb k (length c.palettes)) refl
+  where
+    go : (t : Bool) → ltb k (length c.palettes) ≡ t → chosen_of (Some k) c.palettes ≡ chosen_by b (layout_of b c) (Some k)
+    go true e =
+        let below = ltb-true k (length c.palettes) e in
+        rw e
+        (entry_in kinds.Palette (λ p. Some p.off) c.palettes k blank_palette below
+        ∙ ap (λ (p : Tex.Palette). result (Some p.off))
+        ((palettes_listed (header_of (take 60 b)) b (finished b is).palettes).at k blank_palette below))
+    go false e = rw e (entry_out kinds.Palette _ c.palettes k (ltb-false k (length c.palettes) e))
 
 -- a refusal is passed on, whatever comes next
 pub passed_on : {A B : Type 0} (r : Refusal) (o : Outcome A) (f : A → Outcome B) → refusal_outcome r ≡ o → refusal_outcome r ≡ (o >>= f)
@@ -79,16 +77,17 @@ module _ (n : ℕ) (choice : Option ℕ) (b : List ℕ) {c : Contents} (is : run
   header = header_of (take 60 b)
 
   -- by the layout
-  places_there : has_choice (layout_of b c) choice ≡ true
-      → result (places_by b (layout_of b c) n (chosen_at b (layout_of b c) choice)) ≡ places_of n choice b (run read_tex b)
+  places_there : {p : Option ℕ} → result p ≡ chosen_by b (layout_of b c) choice
+      → result (places_by b (layout_of b c) n p) ≡ places_of n choice b (run read_tex b)
   unfolding places_of places_by ◌>>=◌
   places_there e =
       let t = (textures_listed header b (finished b is).textures).at n blank_texture below in
-      rw (sources_by (chosen_there b is choice e), ← t.word)
+      rw (sources_by (chosen_there b is choice ∙ sym e), ← t.word)
 
-  places_absent : has_choice (layout_of b c) choice ≡ false → refusal (absent_number kinds.Palette) 0 ≡ places_of n choice b (run read_tex b)
+  places_absent : (r : Refusal) → refusal_outcome r ≡ chosen_by b (layout_of b c) choice
+      → refusal_outcome r ≡ places_of n choice b (run read_tex b)
   unfolding places_of ◌>>=◌
-  places_absent e = rw (sources_by (chosen_absent b is choice e))
+  places_absent r e = rw (sources_by (chosen_there b is choice ∙ sym e))
 
   -- and by the places
   parts_at : (p : Option ℕ)
@@ -112,8 +111,8 @@ module _ (n : ℕ) (choice : Option ℕ) (b : List ℕ) {c : Contents} (is : run
 -- the same by the layout that the code has
 pub record SourcesFound (n : ℕ) (choice : Option ℕ) (b : List ℕ) (l : Layout) : Type 0 where
   pub within : l.header.palette_off + list_length kinds.Palette l.palettes ≤ length b
-  pub there : has_choice l choice ≡ true → result (places_by b l n (chosen_at b l choice)) ≡ places_of n choice b (run read_tex b)
-  pub absent : has_choice l choice ≡ false → refusal (absent_number kinds.Palette) 0 ≡ places_of n choice b (run read_tex b)
+  pub there : {p : Option ℕ} → result p ≡ chosen_by b l choice → result (places_by b l n p) ≡ places_of n choice b (run read_tex b)
+  pub absent : (r : Refusal) → refusal_outcome r ≡ chosen_by b l choice → refusal_outcome r ≡ places_of n choice b (run read_tex b)
 
 pub sources_found : (n : ℕ) (choice : Option ℕ) (b : List ℕ) {l : Layout}
     → result l ≡ layout_with kinds.Texture n b (run read_tex b) → SourcesFound n choice b l

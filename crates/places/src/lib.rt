@@ -2,7 +2,7 @@
 
 #![tactic(auto)]
 
-ghost use Rattle.std.specs.Prelude.{◌≡◌, true, ◌+◌, ◌<◌, ◌≤◌, length};
+ghost use Rattle.std.specs.Prelude.{◌≡◌, ◌+◌, ◌<◌, ◌≤◌, length};
 ghost use Rattle.errors.specs.Refusal.{result_outcome};
 ghost use Rattle.errors.specs.declared.Kind.TheVariants as kinds;
 ghost use Rattle.scripts.specs.Script.{run};
@@ -53,27 +53,19 @@ pub fn pal_place(block: &[u8]) -> Result<Place, Refusal>
     Ok(pal_place_at(layout.header))
 }
 
-// Whether the layout's block has the palette that is chosen.
-fn has_choice(layout: Layout, choice: Option<usize>) -> bool
-    ensures { result ≡ ByLayout.has_choice layout choice }
+// The offset of the palette that is chosen, if one is.
+#[tactic(auto, unfolding(crate::specs::ByLayout::chosen_by))]
+fn chosen_off(block: &[u8], layout: Layout, choice: Option<usize>) -> Result<Option<u32>, Refusal>
+    requires { layout.header.palette_off + list_length kinds.Palette layout.palettes ≤ length block.now }
+    ensures { result_outcome result ≡ ByLayout.chosen_by block.now layout choice }
 {
     match choice {
-        None => true,
-        Some(k) => k < layout.palettes,
-    }
-}
-
-// The offset of the palette that is chosen.
-fn chosen_off(block: &[u8], layout: Layout, choice: Option<usize>) -> Option<u32>
-    requires { (layout.header.palette_off + list_length kinds.Palette layout.palettes ≤ length block.now) × (ByLayout.has_choice layout choice ≡ true) }
-    ensures { result ≡ ByLayout.chosen_at block.now layout choice }
-{
-    match choice {
-        None => None,
-        Some(k) => {
-            let header = layout.header;
-            Some(off_at(block, header.palette_off as usize, layout.palettes, k))
+        None => Ok(None),
+        Some(k) if k < layout.palettes => {
+            let pos = layout.header.palette_off as usize;
+            Ok(Some(off_at(block, pos, layout.palettes, k)))
         }
+        Some(_) => Err(Refusal::Number(Kind::Palette)),
     }
 }
 
@@ -101,20 +93,20 @@ pub fn places_of(block: &[u8], layout: Layout, n: usize, palette: Option<u32>) -
 
 // Where in the block all that a picture of texture n with the chosen palette is made from is, by the block's layout: one reading serves for many
 // pictures.
-pub fn locate_by(block: &[u8], layout: Layout, n: usize, choice: Option<usize>) -> Result<Places, Refusal>
+pub fn locate_by(
+    block: &[u8],
+    layout: Layout,
+    n: usize,
+    choice: Option<usize>,
+) -> Result<Places, Refusal>
     requires { LaidOut block.now layout }
     ensures { result_outcome result ≡ Sources.places_of n choice block.now (run Tex.read_tex block.now) }
 {
-    if n < layout.textures {
-        if has_choice(layout, choice) {
-            let palette = chosen_off(block, layout, choice);
-            Ok(places_of(block, layout, n, palette))
-        } else {
-            Err(Refusal::Number(Kind::Palette))
-        }
-    } else {
-        Err(Refusal::Number(Kind::Texture))
+    if n >= layout.textures {
+        return Err(Refusal::Number(Kind::Texture));
     }
+    let palette = chosen_off(block, layout, choice)?;
+    Ok(places_of(block, layout, n, palette))
 }
 
 // Where in the block all that a picture of texture n with the chosen palette is made from is.
