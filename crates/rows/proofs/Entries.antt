@@ -1,15 +1,16 @@
 -- The laws of rows: by the layout that the code has, and where the parts are that a row tells of. Assumes nothing.
-use Prim.Native.Nat.{ℕ, suc, ◌+◌, ◌*◌, ◌≤◌, ◌<◌}
+use Prim.Native.Nat.{ℕ, ◌+◌, ◌-◌, ◌*◌, ◌≤◌, ◌<◌}
 use mathlib.Core.Path.{◌≡◌, refl, sym, ap, subst, ◌∙◌}
 use mathlib.Core.Bool.{Bool, true, false}
-use mathlib.Core.List.{List, [], ◌∷◌}
+use mathlib.Core.List.{List, append_assoc}
 use native.Mathlib.Nat.{zero-add, suc-mul, mul-le-mul_right}
 use native.Mathlib.Numerals.{add-one}
 use native.Mathlib.Omega.{arith}
-use lib.ListN.{length, take, drop, set, get_or, length-drop}
-use lib.Seq.{length-take-le, sets, length-sets}
+use lib.ListN.{length, take, drop, get_or, length-drop}
+use lib.Seq.{drop-drop, length-take-le, sets, sets-eq, length-sets}
 use lib.Dec.{leb, eqb}
 use borrow.Author.Tests.{leb-true, eqb-true}
+use borrow.Rule.Slice.PartMut.{put_mid}
 use Rattle.util.specs.Outcome.{result, refusal}
 use Rattle.util.specs.Take.{taken_part}
 use Rattle.util.proofs.Parts.{part_of_part}
@@ -32,17 +33,12 @@ use Rattle.scripts.proofs.Runs.{whole_outcome, ended, follows_self, refused}
 use Rattle.reading.proofs.Readings.{finished, textures_listed, palettes_listed}
 use Rattle.nitro.proofs.Answers.{blank_texture, blank_palette}
 
--- six numbers that were written one behind the other
-pub six_put : (l : List ℕ) (at a b c d e f : ℕ)
-    → set (set (set (set (set (set l at a) (at + 1) b) (at + 2) c) (at + 3) d) (at + 4) e) (at + 5) f
-    ≡ sets l at (a ∷ b ∷ c ∷ d ∷ e ∷ f ∷ [])
-six_put l at a b c d e f =
-    let one : at + 1 ≡ suc at = omega arith in
-    let two : at + 2 ≡ suc (suc at) = omega arith in
-    let three : at + 3 ≡ suc (suc (suc at)) = omega arith in
-    let four : at + 4 ≡ suc (suc (suc (suc at))) = omega arith in
-    let five : at + 5 ≡ suc (suc (suc (suc (suc at)))) = omega arith in
-    rw (one, two, three, four, five)
+-- a row that is copied over the part from the place on
+pub row_copied : (rows row : List ℕ) (at n : ℕ) {part : List ℕ} → length row ≡ n → at + n ≤ length rows → part ≡ row
+    → put_mid at (at + n - at) rows part ≡ sets rows at row
+row_copied rows row at n long room same =
+    let n_is : at + n - at ≡ n = omega arith in
+    rw (n_is, same, ← long, drop-drop, sets-eq row rows at (rw long room), append_assoc)
 
 -- rows of one length, one behind the other
 module _ (kind : Kind) (b : List ℕ) (l : Layout) where

@@ -35,45 +35,55 @@ fn told_pos(place: Place) -> usize
     if place.len == 0 { 0 } else { place.pos }
 }
 
-// Puts the row of texture n: where its name begins, its word, and the places of its data.
-fn put_texture_row(rows: &mut [usize], at: usize, block: &[u8], layout: Layout, n: usize)
-    requires { (at + 6 ≤ length rows.old) × ((ByLayout.list_end kinds.Texture layout ≤ length block.now) × (n < layout.textures)) }
-    ensures { rows.new ≡ sets rows.old at (ByLayout.row_by kinds.Texture block.now layout n) }
+// The row of texture n: where its name begins, its word, and the places of its data.
+#[tactic(auto, unfolding(crate::specs::ByLayout::row_by))]
+fn texture_row(block: &[u8], layout: Layout, n: usize) -> [usize; 6]
+    requires { (ByLayout.list_end kinds.Texture layout ≤ length block.now) × (n < layout.textures) }
+    ensures { result ≡ ByLayout.row_by kinds.Texture block.now layout n }
 {
-    let header = layout.header;
-    let pos = header.texture_off as usize;
     let count = layout.textures;
     let places = places_of(block, layout, n, None);
-    let data1 = places.data1;
-    let data2 = places.data2;
-    rows[at] = pos + (16 + 4 * count + 8 * count + 16 * n);
-    rows[at + 1] = places.params.0 as usize;
-    rows[at + 2] = told_pos(data1);
-    rows[at + 3] = data1.len;
-    rows[at + 4] = told_pos(data2);
-    rows[at + 5] = data2.len;
+    [
+        layout.header.texture_off as usize + (16 + 4 * count + 8 * count + 16 * n),
+        places.params.0 as usize,
+        told_pos(places.data1),
+        places.data1.len,
+        told_pos(places.data2),
+        places.data2.len,
+    ]
 }
 
-// Puts the row of palette n: where its name begins, and its offset.
-fn put_palette_row(rows: &mut [usize], at: usize, block: &[u8], layout: Layout, n: usize)
-    requires { (at + 2 ≤ length rows.old) × ((ByLayout.list_end kinds.Palette layout ≤ length block.now) × (n < layout.palettes)) }
-    ensures { rows.new ≡ sets rows.old at (ByLayout.row_by kinds.Palette block.now layout n) }
+// The row of palette n: where its name begins, and its offset.
+#[tactic(auto, unfolding(crate::specs::ByLayout::row_by))]
+fn palette_row(block: &[u8], layout: Layout, n: usize) -> [usize; 2]
+    requires { (ByLayout.list_end kinds.Palette layout ≤ length block.now) × (n < layout.palettes) }
+    ensures { result ≡ ByLayout.row_by kinds.Palette block.now layout n }
 {
-    let header = layout.header;
-    let pos = header.palette_off as usize;
+    let pos = layout.header.palette_off as usize;
     let count = layout.palettes;
-    rows[at] = pos + (16 + 4 * count + 4 * count + 16 * n);
-    rows[at + 1] = off_at(block, pos, count, n) as usize;
+    [
+        pos + (16 + 4 * count + 4 * count + 16 * n),
+        off_at(block, pos, count, n) as usize,
+    ]
+}
+
+// Puts a row.
+#[tactic(auto, using(crate::proofs::Entries::row_copied))]
+fn put_row<const N: usize>(rows: &mut [usize], at: usize, row: [usize; N])
+    requires { at + N ≤ length rows.old }
+    ensures { rows.new ≡ sets rows.old at row.entry }
+{
+    rows[at..at + N].copy_from_slice(&row);
 }
 
 // Puts the row of entry n.
-fn put_row(rows: &mut [usize], at: usize, block: &[u8], kind: Kind, layout: Layout, n: usize)
+fn put_entry(rows: &mut [usize], at: usize, block: &[u8], kind: Kind, layout: Layout, n: usize)
     requires { (at + ByLayout.row_length kind ≤ length rows.old) × ((ByLayout.list_end kind layout ≤ length block.now) × (n < count_of kind layout)) }
     ensures { rows.new ≡ sets rows.old at (ByLayout.row_by kind block.now layout n) }
 {
     match kind {
-        Kind::Texture => put_texture_row(rows, at, block, layout, n),
-        Kind::Palette => put_palette_row(rows, at, block, layout, n),
+        Kind::Texture => put_row(rows, at, texture_row(block, layout, n)),
+        Kind::Palette => put_row(rows, at, palette_row(block, layout, n)),
     }
 }
 
@@ -82,12 +92,9 @@ fn put_rows(rows: &mut [usize], block: &[u8], kind: Kind, layout: Layout)
     requires { (count_of kind layout * ByLayout.row_length kind ≤ length rows.old) × (ByLayout.list_end kind layout ≤ length block.now) }
     ensures { rows.new ≡ sets rows.old 0 (pieces (ByLayout.row_by kind block.now layout) (count_of kind layout)) }
 {
-    let count = count_of(kind, layout);
     let len = row_len(kind);
-    let mut n = 0;
-    while n < count {
-        put_row(rows, n * len, block, kind, layout, n);
-        n += 1;
+    for n in 0..count_of(kind, layout) {
+        put_entry(rows, n * len, block, kind, layout, n);
     }
 }
 

@@ -1,6 +1,4 @@
 -- `rows::put_rows` meets its contract: the loop puts row behind row. Assumes nothing.
--- the row that is put is one of those that there is room for
-use Prim.Native.Nat.{◌-◌, ◌≤◌}
 use mathlib.Core.Path.{◌≡◌}
 use lib.Seq.{sets}
 use Rattle.output.specs.Output.{pieces}
@@ -8,7 +6,4 @@ use Rattle.rows.specs.ByLayout.{row_by}
 use Rattle.rows.proofs.put_rows.Given as goal
 
 abbrev pub invariant-loop-n : goal.invariant-loop-n
-invariant-loop-n l = (l.n ≤ l.count) × (l.rows ≡ sets l.initial.rows 0 (pieces (row_by l.kind l.block l.layout) l.n))
-
-abbrev pub decreases-loop-n : goal.decreases-loop-n
-decreases-loop-n l = l.count - l.n
+invariant-loop-n l = l.rows ≡ sets l.initial.rows 0 (pieces (row_by l.kind l.block l.layout) l.n)
