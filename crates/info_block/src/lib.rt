@@ -55,11 +55,7 @@ fn name_at(block: &[u8], pos: usize) -> Name
     ensures { result.0 ≡ first_bytes 16 (drop pos block.now) }
 {
     let mut bytes = [0u8; 16];
-    let mut i = 0;
-    while i < 16 {
-        bytes[i] = block[pos + i];
-        i += 1;
-    }
+    bytes.copy_from_slice(&block[pos..pos + 16]);
     Name(bytes)
 }
 

@@ -83,10 +83,8 @@ impl Name {
         if out.len() < n {
             return Err(Refusal::Output);
         }
-        let mut i = 0;
-        while i < n {
+        for i in 0..n {
             out[i] = safe_byte(bytes[i]);
-            i += 1;
         }
         Ok(n)
     }
@@ -98,10 +96,8 @@ impl Name {
     {
         let bytes = self.0;
         let mut len: usize = 0;
-        let mut i = 0;
-        while i < n {
+        for i in 0..n {
             len += display_width(bytes[i]);
-            i += 1;
         }
         len
     }
@@ -115,11 +111,9 @@ impl Name {
         if out.len() < self.display_len(n) {
             return Err(Refusal::Output);
         }
-        let mut i = 0;
         let mut end = 0;
-        while i < n {
+        for i in 0..n {
             end = put_display(out, end, bytes[i]);
-            i += 1;
         }
         Ok(end)
     }

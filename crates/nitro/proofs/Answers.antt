@@ -8,7 +8,7 @@ use native.Mathlib.Omega.{arith}
 use lib.ListN.{length, get_or, take}
 use lib.Dec.{ltb}
 use borrow.Author.Tests.{ltb-true, ltb-false, lt-ltb, le-ltb}
-use Rattle.util.specs.Outcome.{Outcome, result, refusal}
+use Rattle.util.specs.Outcome.{result, refusal}
 use Rattle.util.specs.Take.{taken_part}
 use Rattle.errors.specs.Refusal.{absent_number, refusal_outcome}
 use Rattle.errors.specs.declared.Kind.{Kind}

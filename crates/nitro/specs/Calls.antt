@@ -1,5 +1,5 @@
 -- What each call answers, as a function of the reading's answer and the call's other arguments. Assumes nothing.
-use Rattle.std.specs.Prelude.{ℕ, zero, suc, ◌≡◌, List, [], ◌∷◌, length, replicate}
+use Rattle.std.specs.Prelude.{ℕ, zero, suc, List, [], ◌∷◌, length, replicate}
 use Rattle.util.specs.Outcome.{Outcome, result, refusal}
 use Rattle.nds.specs.Params.{repeat_s, mirror_s, repeat_t, mirror_t}
 use Rattle.nds.specs.Formats.{alpha}

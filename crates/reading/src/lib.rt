@@ -97,11 +97,8 @@ fn take_all_data(block: &[u8], header: Header, count: usize) -> Result<usize, Re
     ensures { result_outcome result ≡ Layouts.counting (Layouts.each_texture header count block.now) block.now }
 {
     let pos = header.texture_off as usize;
-    let mut i = 0;
-    while i < count {
-        let params = params_at(block, pos, count, i);
-        take_data(block, header, params)?;
-        i += 1;
+    for i in 0..count {
+        take_data(block, header, params_at(block, pos, count, i))?;
     }
     Ok(count)
 }

@@ -1,6 +1,6 @@
 -- `reading::take_all_data` meets its contract: what is left of the row of textures has the whole row's outcome, which is the loop's
 -- invariant. Assumes nothing.
-use Prim.Native.Nat.{ℕ, ◌-◌, ◌≤◌}
+use Prim.Native.Nat.{ℕ, ◌-◌}
 use mathlib.Core.Path.{◌≡◌}
 use mathlib.Core.List.{List}
 use Rattle.util.specs.Outcome.{Outcome, result}
@@ -21,7 +21,4 @@ module _ (block : List ℕ) (header : Header) (count : ℕ) where
   row i n = outcome_of (run (each_from i n script) block) (λ _. result count)
 
 abbrev pub invariant-loop-i : goal.invariant-loop-i
-invariant-loop-i l = (l.i ≤ l.count) × (row l.block l.header l.count l.i (l.count - l.i) ≡ counting (each_texture l.header l.count l.block) l.block)
-
-abbrev pub decreases-loop-i : goal.decreases-loop-i
-decreases-loop-i l = l.count - l.i
+invariant-loop-i l = row l.block l.header l.count l.i (l.count - l.i) ≡ counting (each_texture l.header l.count l.block) l.block

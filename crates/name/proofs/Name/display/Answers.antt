@@ -22,7 +22,7 @@ returns-then-out-display_len c = rw (display_kept _ _ c.trimmed_len-n.ensures) (
 
 pub loop-i-init : goal.loop-i-init
 unfolding flat_map
-loop-i-init c = (omega arith, wrote_none _)
+loop-i-init c = wrote_none _
 
 pub bounds-bytes-i : goal.bounds-bytes-i
 bounds-bytes-i c =
@@ -35,7 +35,7 @@ put_display-end-requires c =
     let within : c.trimmed_len-n.result ≤ length c.args.self.0 = kept_within _ _ c.trimmed_len-n.ensures in
     let room : let a = c.args in
     c.loop-i.end + length (display_byte (get_or a.self.0 c.loop-i.i 0)) ≤ length a.out.now = omega (arith, flat_room c.args.self.0 c.loop-i.i display_byte c.trimmed_len-n.result (omega arith) (within)) in
-    omega (arith, room, wrote_length c.loop-i.invariant.1)
+    omega (arith, room, wrote_length c.loop-i.invariant)
 
 pub loop-i-preserved : goal.loop-i-preserved
 loop-i-preserved c =
@@ -44,12 +44,12 @@ loop-i-preserved c =
     c.loop-i.end + length (display_byte (get_or a.self.0 c.loop-i.i 0)) ≤ length a.out.now = omega (arith, flat_room c.args.self.0 c.loop-i.i display_byte c.trimmed_len-n.result (omega arith) (within)) in
     let h : c.loop-i.i < length c.args.self.0 = omega (arith, within) in
     let e = c.put_display-end.ensures in
-    (omega arith, rw (flat_more _ _ display_byte h, e.value, e.out_after) (wrote_more c.loop-i.invariant.1 _ (room)))
+    rw (flat_more _ _ display_byte h, e.value, e.out_after) (wrote_more c.loop-i.invariant _ (room))
 
 pub shape_of-out : goal.shape_of-out
-shape_of-out c = wrote_length c.loop-i.invariant.1
+shape_of-out c = wrote_length c.loop-i.invariant
 
 pub returns : goal.returns
 returns c =
     let z : c.loop-i.i ≡ c.trimmed_len-n.result = omega arith in
-    rw (display_kept _ _ c.trimmed_len-n.ensures, ← z) (writes_fits c.loop-i.invariant.1)
+    rw (display_kept _ _ c.trimmed_len-n.ensures, ← z) (writes_fits c.loop-i.invariant)

@@ -11,7 +11,7 @@ use Rattle.name.proofs.Name.display_len.Goals as goal
 
 pub loop-i-init : goal.loop-i-init
 unfolding flat_map
-loop-i-init c = (omega arith, omega arith, refl)
+loop-i-init c = (omega arith, refl)
 
 pub overflow_add-len : goal.overflow_add-len
 overflow_add-len c =
@@ -24,7 +24,7 @@ loop-i-preserved c =
     let short : c.display_width-len.result ≤ 2 = rw c.display_width-len.ensures (display_short (get_or c.args.self.0 c.loop-i.i 0)) in
     let e = sized in
     let h : c.loop-i.i < length c.args.self.0 = omega arith in
-    (omega arith, omega (arith, short), rw (flat_more _ _ display_byte h, length-append) (omega arith))
+    (omega (arith, short), rw (flat_more _ _ display_byte h, length-append) (omega arith))
 
 pub returns : goal.returns
-returns c = let z : c.loop-i.i ≡ c.args.n = omega arith in rw (← z) c.loop-i.invariant.2
+returns c = let z : c.loop-i.i ≡ c.args.n = omega arith in rw (← z) c.loop-i.invariant.1

@@ -21,7 +21,7 @@ pub returns-then-out-n : goal.returns-then-out-n
 returns-then-out-n c = writes_short _ _ (omega (arith, safe_length _ _ c.trimmed_len-n.ensures c.if-n-eq0.false))
 
 pub loop-i-init : goal.loop-i-init
-loop-i-init c = (omega arith, wrote_none _)
+loop-i-init c = wrote_none _
 
 pub bounds-bytes-i : goal.bounds-bytes-i
 bounds-bytes-i c =
@@ -30,18 +30,18 @@ bounds-bytes-i c =
     omega (arith, within, sized)
 
 pub bounds-out-i : goal.bounds-out-i
-bounds-out-i c = omega (arith, wrote_length c.loop-i.invariant.1)
+bounds-out-i c = omega (arith, wrote_length c.loop-i.invariant)
 
 pub loop-i-preserved : goal.loop-i-preserved
 loop-i-preserved c =
     let within : c.trimmed_len-n.result ≤ length c.args.self.0 = kept_within _ _ c.trimmed_len-n.ensures in
     let h : c.loop-i.i < length c.args.self.0 = omega (arith, within) in
-    (omega arith, rw (map_more _ _ safe_byte h, ← c.safe_byte.ensures) (wrote_byte c.loop-i.invariant.1 _ (omega arith)))
+    rw (map_more _ _ safe_byte h, ← c.safe_byte.ensures) (wrote_byte c.loop-i.invariant _ (omega arith))
 
 pub shape_of-out : goal.shape_of-out
-shape_of-out c = wrote_length c.loop-i.invariant.1
+shape_of-out c = wrote_length c.loop-i.invariant
 
 pub returns : goal.returns
 returns c =
     let z : c.loop-i.i ≡ c.trimmed_len-n.result = omega arith in
-    rw (safe_some _ _ c.trimmed_len-n.ensures c.if-n-eq0.false, ← z) (writes_fits c.loop-i.invariant.1)
+    rw (safe_some _ _ c.trimmed_len-n.ensures c.if-n-eq0.false, ← z) (writes_fits c.loop-i.invariant)
