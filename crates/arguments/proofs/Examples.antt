@@ -1,20 +1,18 @@
 -- Arguments, as texts. Assumes nothing.
-use Rattle.std.specs.Prelude.{None}
+use Rattle.std.specs.Prelude.{None, Some}
 use mathlib.Core.Path.{◌≡◌, refl}
 use mathlib.Core.List.{[]}
 use Rattle.text.specs.Text.{ascii}
 use Rattle.arguments.specs.Arguments.{all_digits, spelled_from, number_of, is_dash, choice_of}
-use Rattle.arguments.specs.declared.Parsed.TheVariants as parsed
-use Rattle.arguments.specs.declared.ParsedChoice.TheVariants as parsed_choice
 
 pub record Examples : Type 0 where
-  pub twelve : number_of (ascii "12") ≡ parsed.Number 12
-  pub leading_zeros : number_of (ascii "007") ≡ parsed.Number 7
-  pub above_all : number_of (ascii "65536") ≡ parsed.Number 65535
-  pub no_digits : number_of [] ≡ parsed.Malformed
-  pub another_byte : number_of (ascii "1x") ≡ parsed.Malformed
-  pub dash : choice_of (ascii "-") ≡ parsed_choice.Choice None
-  pub two_dashes : choice_of (ascii "--") ≡ parsed_choice.Malformed
+  pub twelve : number_of (ascii "12") ≡ Some 12
+  pub leading_zeros : number_of (ascii "007") ≡ Some 7
+  pub above_all : number_of (ascii "65536") ≡ Some 65535
+  pub no_digits : number_of [] ≡ None
+  pub another_byte : number_of (ascii "1x") ≡ None
+  pub dash : choice_of (ascii "-") ≡ Some None
+  pub two_dashes : choice_of (ascii "--") ≡ None
 
 -- Each by computation.
 pub examples : Examples

@@ -1,48 +1,38 @@
 -- The laws of the numbers that texts spell. Assumes nothing.
-use Rattle.std.specs.Prelude.{None}
+use Rattle.std.specs.Prelude.{Option, None, Some}
 use Prim.Native.Nat.{ℕ, zero, suc, ◌+◌, ◌/◌, ◌%◌, ◌≤◌, ◌<◌}
 use mathlib.Core.Path.{◌≡◌, refl, ap, ◌∙◌}
 use mathlib.Core.Bool.{Bool, true, false, cond, ◌&&◌}
 use mathlib.Core.List.{List, [], ◌∷◌, ◌++◌}
 use native.Mathlib.Numerals.{add-one}
 use native.Mathlib.Omega.{arith}
-use lib.ListN.{length, get_or, drop, length-append}
+use lib.ListN.{length, get_or, drop, length-append, drop_of_length-le}
 use lib.Seq.{drop-cons}
-use lib.Dec.{ltb, leb, eqb}
-use borrow.Author.Tests.{ltb-true, ltb-false, leb-true, le-leb}
+use lib.Dec.{ltb}
+use borrow.Author.Tests.{ltb-true, ltb-false, le-leb}
 use Rattle.text.specs.Text.{decimal_below, decimal}
 use Rattle.arguments.specs.Arguments.{is_digit, all_digits, with_digit, spelled_from, capped, number_of, is_dash, choice_by, choice_of}
-use Rattle.arguments.specs.declared.Parsed.{Parsed}
-use Rattle.arguments.specs.declared.Parsed.TheVariants.{Number, Malformed}
-use Rattle.arguments.specs.declared.ParsedChoice.TheVariants as parsed_choice
 
--- the text `-`
-pub one_byte : (text : List ℕ) → length text ≡ 1 → eqb (get_or text 0 0) 45 ≡ is_dash text
-unfolding is_dash
-one_byte [] e = absurd (omega arith)
-one_byte (b ∷ []) e = refl
-one_byte (b ∷ c ∷ later) e = absurd (omega arith)
+-- the choice of a palette, by the text's length and its byte
+pub dash_choice : (text : List ℕ) → length text ≡ 1 → get_or text 0 0 ≡ 45 → choice_of text ≡ Some None
+unfolding is_dash choice_of
+dash_choice [] e d = absurd (omega arith)
+dash_choice (b ∷ []) e d = rw d
+dash_choice (b ∷ c ∷ later) e d = absurd (omega arith)
 
-pub not_one_byte : (text : List ℕ) → (length text ≡ 1 → ⊥) → false ≡ is_dash text
-unfolding is_dash
-not_one_byte [] e = refl
-not_one_byte (b ∷ []) e = absurd (e refl)
-not_one_byte (b ∷ c ∷ later) e = refl
+pub number_choice : (text : List ℕ) → (length text ≡ 1 → get_or text 0 0 ≡ 45 → ⊥) → choice_of text ≡ choice_by (number_of text)
+unfolding is_dash choice_of
+number_choice [] n = refl
+number_choice (b ∷ []) n = grind (arith, n refl)
+number_choice (b ∷ c ∷ later) n = refl
 
--- the choice of a palette
-pub no_palette_lem : (text : List ℕ) → is_dash text ≡ true → parsed_choice.Choice None ≡ choice_of text
-unfolding choice_of
-no_palette_lem text e = rw e
-
-pub by_number : (text : List ℕ) → is_dash text ≡ false → choice_by (number_of text) ≡ choice_of text
-unfolding choice_of
-by_number text e = rw e
+pub ruleset choices = (dash_choice, number_choice)
 
 -- what a text comes to behind digits that spell n
-unfoldable pub number_from : (n : ℕ) → List ℕ → Parsed
-number_from n text = cond (all_digits text) (Number (capped (spelled_from n text))) Malformed
+unfoldable pub number_from : (n : ℕ) → List ℕ → Option ℕ
+number_from n text = cond (all_digits text) (Some (capped (spelled_from n text))) None
 
-pub none_spelled : (text : List ℕ) → length text ≡ 0 → Malformed ≡ number_of text
+pub none_spelled : (text : List ℕ) → length text ≡ 0 → number_of text ≡ None
 unfolding number_of
 none_spelled [] e = refl
 none_spelled (b ∷ later) e = absurd (omega arith)
@@ -61,21 +51,12 @@ unfolding spelled_from
 capped_same m n [] e = e
 capped_same m n (b ∷ later) e = capped_same (with_digit m b) (with_digit n b) later (capped_digit m n b e)
 
--- the byte of a digit
-pub digit_within : (b : ℕ) → is_digit b ≡ true → (48 ≤ b) × (b ≤ 57)
-digit_within b e = go (leb 48 b) (leb b 57) refl refl
-  where
-    go : (l m : Bool) → leb 48 b ≡ l → leb b 57 ≡ m → (48 ≤ b) × (b ≤ 57)
-    go true true p q = (leb-true 48 b p, leb-true b 57 q)
-    go true false p q = let z : ◌≡◌ {A = ℕ} 0 1 = cc (rw (p, q) at e) in absurd (omega arith)
-    go false m p q = let z : ◌≡◌ {A = ℕ} 0 1 = cc (rw p at e) in absurd (omega arith)
-
 -- the byte at i, and the text behind it
 module _ (text : List ℕ) (i n : ℕ) (h : i < length text) where
   first : drop i text ≡ get_or text i 0 ∷ drop (i + 1) text
   first = rw (add-one, drop-cons text i 0)
 
-  pub no_digit : is_digit (get_or text i 0) ≡ false → Malformed ≡ number_from n (drop i text)
+  pub no_digit : is_digit (get_or text i 0) ≡ false → number_from n (drop i text) ≡ None
   unfolding number_from all_digits
   no_digit e = rw (first, e)
 
@@ -87,9 +68,11 @@ module _ (text : List ℕ) (i n : ℕ) (h : i < length text) where
       rw (first, e, capped_same (capped m) m (drop (i + 1) text) (omega arith))
 
 -- all digits are read
-pub all_read : (n : ℕ) → n ≤ 65535 → number_from n [] ≡ Number n
+pub all_read : (text : List ℕ) (i n : ℕ) → length text ≤ i → n ≤ 65535 → number_from n (drop i text) ≡ Some n
 unfolding number_from all_digits spelled_from
-all_read n h = ap Number (omega arith)
+all_read text i n past h = rw (drop_of_length-le text past) (ap Some (omega arith))
+
+pub ruleset spellings = (none_spelled, some_spelled, no_digit, one_digit, all_read)
 
 -- digits behind others
 spelled_behind : (n : ℕ) (first later : List ℕ) → spelled_from n (first ++ later) ≡ spelled_from (spelled_from n first) later
@@ -124,7 +107,7 @@ below_spelled (suc limit) n h = go (ltb n 10) refl (λ l. below_spelled limit (n
         let (digits, spelled) = tenth (omega (arith, ltb-false n 10 e)) in
         (digits_behind (decimal_below limit (n / 10)) _ digits (last_digit n), rw (spelled_behind, spelled) (omega arith))
 
-pub decimal_spelled : (n : ℕ) → number_of (decimal n) ≡ Number (capped n)
+pub decimal_spelled : (n : ℕ) → number_of (decimal n) ≡ Some (capped n)
 unfolding decimal decimal_below number_from
 decimal_spelled n =
     let (digits, spelled) = below_spelled (suc n) n (omega arith) in
