@@ -1,14 +1,15 @@
 -- The laws of the reading: what its parts come to, and where what it found stands in the block. Assumes nothing.
 use Prim.Native.Nat.{ℕ, ◌+◌, ◌*◌, ◌/◌, ◌≤◌, ◌<◌}
 use mathlib.Core.Path.{◌≡◌, refl, sym, ap, ◌∙◌, subst}
-use mathlib.Core.Bool.{Bool, true, false}
-use mathlib.Core.List.{List, []}
+use mathlib.Core.Bool.{Bool, true, false, ◌&&◌}
+use mathlib.Core.List.{List, [], ◌∷◌}
 use native.Mathlib.Nat.{zero-add}
 use native.Mathlib.Omega.{arith}
 use lib.ListN.{length, take, drop, get_or, length-drop}
 use lib.Seq.{get_or-take, length-take-le}
 use lib.Dec.{eqb, lit<}
-use borrow.Author.Tests.{eq-eqb, ne_eqb}
+use borrow.Author.Tests.{eq-eqb, ne_eqb, eqb-true, eqb-false}
+use Rattle.std.specs.List.{starts_with}
 use Rattle.util.specs.Outcome.{result}
 use Rattle.util.specs.Take.{taken_part}
 use Rattle.util.proofs.Takes.{part_there, part_empty}
@@ -31,6 +32,30 @@ use Rattle.info_block.proofs.Lists.{name_listed}
 pub stamp_there : (b : List ℕ) → has_stamp (take 60 b) ≡ has_stamp b
 stamp_there b =
     rw (get_or-take 60 b 0 0 (lit< tt), get_or-take 60 b 1 0 (lit< tt), get_or-take 60 b 2 0 (lit< tt), get_or-take 60 b 3 0 (lit< tt))
+
+-- the stamp as the first four bytes
+eqb_turned : (a b : ℕ) → eqb a b ≡ eqb b a
+eqb_turned a b = go (eqb a b) refl
+  where
+    go : (t : Bool) → eqb a b ≡ t → eqb a b ≡ eqb b a
+    go true q = q ∙ sym (eq-eqb b a (sym (eqb-true a b q)))
+    go false q = q ∙ sym (ne_eqb b a (λ e. eqb-false a b q (sym e)))
+
+all_four : (p q r s : Bool) → p && (q && (r && (s && true))) ≡ p && q && r && s
+all_four true true true true = refl
+all_four true true true false = refl
+all_four true true false s = refl
+all_four true false r s = refl
+all_four false q r s = refl
+
+pub stamp_starts : (b : List ℕ) → 60 ≤ length b → starts_with eqb b (84 ∷ 69 ∷ 88 ∷ 48 ∷ []) ≡ has_stamp (take 60 b)
+stamp_starts (t ∷ e ∷ x ∷ n ∷ later) h =
+    rw (stamp_there (t ∷ e ∷ x ∷ n ∷ later), eqb_turned 84 t, eqb_turned 69 e, eqb_turned 88 x, eqb_turned 48 n)
+    (all_four (eqb t 84) (eqb e 69) (eqb x 88) (eqb n 48))
+stamp_starts (t ∷ e ∷ x ∷ []) h = absurd (omega arith)
+stamp_starts (t ∷ e ∷ []) h = absurd (omega arith)
+stamp_starts (t ∷ []) h = absurd (omega arith)
+stamp_starts [] h = absurd (omega arith)
 
 -- the header
 module _ (b : List ℕ) where

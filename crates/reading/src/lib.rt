@@ -20,20 +20,12 @@ use scripts::take;
 use util::view::{view_u16, view_u32};
 
 // Whether the block begins with TEX0.
+#[tactic(auto, using(crate::proofs::Readings::stamp_starts, crate::proofs::Readings::stamp_there))]
 fn has_stamp(block: &[u8]) -> bool
     requires { 60 ≤ length block.now }
     ensures { result ≡ Tex.has_stamp (first_bytes 60 block.now) }
 {
-    if block[0] != b'T' {
-        return false;
-    }
-    if block[1] != b'E' {
-        return false;
-    }
-    if block[2] != b'X' {
-        return false;
-    }
-    block[3] == b'0'
+    block.starts_with(b"TEX0")
 }
 
 // The header's fields.
