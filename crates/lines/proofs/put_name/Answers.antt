@@ -17,9 +17,9 @@ overflow_add-at c =
     let wrote : PartWrote (safe_text c.args.name.0) c.args.out.now c.args.at (result_outcome c.print_safe.result) c.print_safe.new.out = part_wrote _ _ _ (room_first _ _ c.requires) c.print_safe.ensures in
     let first : let entry = c.args.out.now in
     let at = c.args.at in
-    Put (safe_text c.args.name.0) entry at (put_mid at (length entry - at) entry c.print_safe.new.out) (at + c.in-Count.len) = let w = wrote in
+    Put (safe_text c.args.name.0) entry at (put_mid at (length entry - at) entry c.print_safe.new.out) (at + c.in-Ok.len) = let w = wrote in
     let name = c.args.name.0 in
-    let e : c.in-Count.len ≡ length (safe_text name) = cc (rw c.in-Count.is at w.outcome) in
+    let e : c.in-Ok.len ≡ length (safe_text name) = cc (rw c.in-Ok.is at w.outcome) in
     record { output = w.output; behind = rw e } in
     omega (arith, (first).behind, (room_first (safe_text c.args.name.0) c.args.end.now c.requires).fits)
 
@@ -28,24 +28,24 @@ put-requires c =
     let wrote : PartWrote (safe_text c.args.name.0) c.args.out.now c.args.at (result_outcome c.print_safe.result) c.print_safe.new.out = part_wrote _ _ _ (room_first _ _ c.requires) c.print_safe.ensures in
     let first : let entry = c.args.out.now in
     let at = c.args.at in
-    Put (safe_text c.args.name.0) entry at (put_mid at (length entry - at) entry c.print_safe.new.out) (at + c.in-Count.len) = let w = wrote in
+    Put (safe_text c.args.name.0) entry at (put_mid at (length entry - at) entry c.print_safe.new.out) (at + c.in-Ok.len) = let w = wrote in
     let name = c.args.name.0 in
-    let e : c.in-Count.len ≡ length (safe_text name) = cc (rw c.in-Count.is at w.outcome) in
+    let e : c.in-Ok.len ≡ length (safe_text name) = cc (rw c.in-Ok.is at w.outcome) in
     record { output = w.output; behind = rw e } in
     room_then (first) c.requires
 
-pub returns-in-Count : goal.returns-in-Count
-returns-in-Count c =
+pub returns-in-Ok : goal.returns-in-Ok
+returns-in-Ok c =
     let wrote : PartWrote (safe_text c.args.name.0) c.args.out.now c.args.at (result_outcome c.print_safe.result) c.print_safe.new.out = part_wrote _ _ _ (room_first _ _ c.requires) c.print_safe.ensures in
     let first : let entry = c.args.out.now in
     let at = c.args.at in
-    Put (safe_text c.args.name.0) entry at (put_mid at (length entry - at) entry c.print_safe.new.out) (at + c.in-Count.len) = let w = wrote in
+    Put (safe_text c.args.name.0) entry at (put_mid at (length entry - at) entry c.print_safe.new.out) (at + c.in-Ok.len) = let w = wrote in
     let name = c.args.name.0 in
-    let e : c.in-Count.len ≡ length (safe_text name) = cc (rw c.in-Count.is at w.outcome) in
+    let e : c.in-Ok.len ≡ length (safe_text name) = cc (rw c.in-Ok.is at w.outcome) in
     record { output = w.output; behind = rw e } in
     put_then (first) c.put.ensures
 
-pub returns-in-Refused : goal.returns-in-Refused
-returns-in-Refused c =
+pub returns-in-Err : goal.returns-in-Err
+returns-in-Err c =
     let wrote : PartWrote (safe_text c.args.name.0) c.args.out.now c.args.at (result_outcome c.print_safe.result) c.print_safe.new.out = part_wrote _ _ _ (room_first _ _ c.requires) c.print_safe.ensures in
-    absurd (refusal_not c.in-Refused.field-0 (rw c.in-Refused.is at (wrote).outcome))
+    absurd (refusal_not c.in-Err.field-0 (rw c.in-Err.is at (wrote).outcome))
