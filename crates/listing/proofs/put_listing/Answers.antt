@@ -29,41 +29,41 @@ returns-then-is_too_long c =
 
 pub put_list-at-requires : goal.put_list-at-requires
 put_list-at-requires c =
-    let laid : LaidOut c.args.input.now c.in-Found.layout = record { is = rw c.in-Found.is at c.lay_out.ensures } in
+    let laid : LaidOut c.args.input.now c.in-Ok.layout = record { is = rw c.in-Ok.is at c.lay_out.ensures } in
     let short-enough : ltb 65536 (length c.args.input.now) ≡ false = sym c.is_too_long.ensures ∙ c.if-is_too_long.false in
     let lists : let b = c.args.input.now in
-    let l = c.in-Found.layout in
+    let l = c.in-Ok.layout in
     listing_text b ≡ list_of Texture (run read_tex b) l.textures ++ list_of Palette (run read_tex b) l.palettes = listing_lists _ (short-enough) (laid) in
     (laid, room_first _ _ (rw (lists) at c.requires))
 
 pub put_list-requires : goal.put_list-requires
 put_list-requires c =
-    let laid : LaidOut c.args.input.now c.in-Found.layout = record { is = rw c.in-Found.is at c.lay_out.ensures } in
+    let laid : LaidOut c.args.input.now c.in-Ok.layout = record { is = rw c.in-Ok.is at c.lay_out.ensures } in
     let short-enough : ltb 65536 (length c.args.input.now) ≡ false = sym c.is_too_long.ensures ∙ c.if-is_too_long.false in
     let lists : let b = c.args.input.now in
-    let l = c.in-Found.layout in
+    let l = c.in-Ok.layout in
     listing_text b ≡ list_of Texture (run read_tex b) l.textures ++ list_of Palette (run read_tex b) l.palettes = listing_lists _ (short-enough) (laid) in
     (laid, room_then c.put_list-at.ensures (rw (lists) at c.requires))
 
-pub put_refused-requires-in-Refused : goal.put_refused-requires-in-Refused
-put_refused-requires-in-Refused c =
+pub put_refused-requires-in-Err : goal.put_refused-requires-in-Err
+put_refused-requires-in-Err c =
     let short-enough : ltb 65536 (length c.args.input.now) ≡ false = sym c.is_too_long.ensures ∙ c.if-is_too_long.false in
     let refused : let b = c.args.input.now in
-    listing_text b ≡ refused_line (refusal_number c.in-Refused.refusal) (refusal_returned c.in-Refused.refusal) = listing_refused _ (short-enough) c.in-Refused.refusal (rw c.in-Refused.is at c.lay_out.ensures) in
+    listing_text b ≡ refused_line (refusal_number c.in-Err.refusal) (refusal_returned c.in-Err.refusal) = listing_refused _ (short-enough) c.in-Err.refusal (rw c.in-Err.is at c.lay_out.ensures) in
     rw (c.number.ensures, c.returned.ensures) (rw (refused) at c.requires)
 
-pub returns-in-Found : goal.returns-in-Found
-returns-in-Found c =
+pub returns-in-Ok : goal.returns-in-Ok
+returns-in-Ok c =
     let short-enough : ltb 65536 (length c.args.input.now) ≡ false = sym c.is_too_long.ensures ∙ c.if-is_too_long.false in
-    let laid : LaidOut c.args.input.now c.in-Found.layout = record { is = rw c.in-Found.is at c.lay_out.ensures } in
+    let laid : LaidOut c.args.input.now c.in-Ok.layout = record { is = rw c.in-Ok.is at c.lay_out.ensures } in
     let lists : let b = c.args.input.now in
-    let l = c.in-Found.layout in
+    let l = c.in-Ok.layout in
     listing_text b ≡ list_of Texture (run read_tex b) l.textures ++ list_of Palette (run read_tex b) l.palettes = listing_lists _ (short-enough) (laid) in
     rw (lists) (put_then c.put_list-at.ensures c.put_list.ensures)
 
-pub returns-in-Refused : goal.returns-in-Refused
-returns-in-Refused c =
+pub returns-in-Err : goal.returns-in-Err
+returns-in-Err c =
     let short-enough : ltb 65536 (length c.args.input.now) ≡ false = sym c.is_too_long.ensures ∙ c.if-is_too_long.false in
     let refused : let b = c.args.input.now in
-    listing_text b ≡ refused_line (refusal_number c.in-Refused.refusal) (refusal_returned c.in-Refused.refusal) = listing_refused _ (short-enough) c.in-Refused.refusal (rw c.in-Refused.is at c.lay_out.ensures) in
-    rw (refused) (rw (c.number.ensures, c.returned.ensures) at c.put_refused-in-Refused.ensures)
+    listing_text b ≡ refused_line (refusal_number c.in-Err.refusal) (refusal_returned c.in-Err.refusal) = listing_refused _ (short-enough) c.in-Err.refusal (rw c.in-Err.is at c.lay_out.ensures) in
+    rw (refused) (rw (c.number.ensures, c.returned.ensures) at c.put_refused-in-Err.ensures)
