@@ -18,7 +18,7 @@ use Rattle.nds.specs.Formats.{data_length, second_length}
 use Rattle.places.specs.Sources.{Sources}
 use Rattle.texels.specs.Texels.{texel_bits, block_of, format1, formats2to4, format5, format6, format7}
 use Rattle.decode.specs.Pictures.{texel_count, texel, picture_bytes, lacks_palette, ready, sources, decoded}
-use Rattle.decode.proofs.Pictures.{eights, length_by, second_by, texel1, texel2, texel3, texel4, texel5, texel6, texel7}
+use Rattle.decode.proofs.Pictures.{eights, length_by, second_by, texel_by}
 use Rattle.output.proofs.Outputs.{pieces_same}
 use Rattle.compressed.proofs.Rows.{mul_below}
 
@@ -54,25 +54,25 @@ module _ (s : Sources) (n : ℕ) (h : n < texel_count s.word) where
   unfolding format1
   same1 e =
       let l : n < data_length s.word = omega (arith, length_by s.word e) in
-      rw (texel1 s n e, texel1 (needed s) n e, get_or-take)
+      rw (texel_by s e n, texel_by (needed s) e n, get_or-take)
 
   same2 : format s.word ≡ 2 → texel s n ≡ texel (needed s) n
   unfolding formats2to4 texel_bits
   same2 e =
       let l : n * 2 / 8 < data_length s.word = omega (arith, (eights s.word).texels, length_by s.word e) in
-      rw (texel2 s n e, texel2 (needed s) n e, get_or-take)
+      rw (texel_by s e n, texel_by (needed s) e n, get_or-take)
 
   same3 : format s.word ≡ 3 → texel s n ≡ texel (needed s) n
   unfolding formats2to4 texel_bits
   same3 e =
       let l : n * 4 / 8 < data_length s.word = omega (arith, (eights s.word).texels, length_by s.word e) in
-      rw (texel3 s n e, texel3 (needed s) n e, get_or-take)
+      rw (texel_by s e n, texel_by (needed s) e n, get_or-take)
 
   same4 : format s.word ≡ 4 → texel s n ≡ texel (needed s) n
   unfolding formats2to4 texel_bits
   same4 e =
       let l : n * 8 / 8 < data_length s.word = omega (arith, length_by s.word e) in
-      rw (texel4 s n e, texel4 (needed s) n e, get_or-take)
+      rw (texel_by s e n, texel_by (needed s) e n, get_or-take)
 
   same5 : format s.word ≡ 5 → texel s n ≡ texel (needed s) n
   unfolding format5
@@ -82,19 +82,19 @@ module _ (s : Sources) (n : ℕ) (h : n < texel_count s.word) where
       let sizes = eights w in
       let l : 4 * b + 4 ≤ data_length w = omega (arith, block_below w n h, length_by w e) in
       let l' : 2 * b + 2 ≤ second_length w = omega (arith, block_below w n h, length_by w e, second_by w e) in
-      rw (texel5 s n e, texel5 (needed s) n e, number_cut 4 (4 * b), number_cut 2 (2 * b))
+      rw (texel_by s e n, texel_by (needed s) e n, number_cut 4 (4 * b), number_cut 2 (2 * b))
 
   same6 : format s.word ≡ 6 → texel s n ≡ texel (needed s) n
   unfolding format6
   same6 e =
       let l : n < data_length s.word = omega (arith, length_by s.word e) in
-      rw (texel6 s n e, texel6 (needed s) n e, get_or-take)
+      rw (texel_by s e n, texel_by (needed s) e n, get_or-take)
 
   same7 : format s.word ≡ 7 → texel s n ≡ texel (needed s) n
   unfolding format7
   same7 e =
       let l : 2 * n + 2 ≤ data_length s.word = omega (arith, length_by s.word e) in
-      rw (texel7 s n e, texel7 (needed s) n e, number_cut)
+      rw (texel_by s e n, texel_by (needed s) e n, number_cut)
 
   -- format 0 has none
   same_texel : (format s.word ≡ 0 → ⊥) → texel s n ≡ texel (needed s) n

@@ -11,7 +11,7 @@ use lib.Dec.{eqb, ltb}
 use lib.Pow.{pow_pos}
 use borrow.Author.Tests.{eq-eqb, ne_eqb, ltb-true, ltb-false, eqb-false}
 use Rattle.util.specs.Outcome.{Outcome, result, refusal, ◌>>=◌}
-use Rattle.nds.specs.Params.{width, height, format, color0_transparent}
+use Rattle.nds.specs.Params.{width, height, format}
 use Rattle.nds.specs.Formats.{bits_per_texel, data_length, second_length}
 use Rattle.errors.specs.Refusal.{refusal_outcome}
 use Rattle.output.specs.Output.{Writes, pieces}
@@ -22,12 +22,11 @@ use Rattle.scripts.specs.Script.{Answer}
 use Rattle.reading.specs.Tex.{Contents}
 use Rattle.places.specs.Sources.{Sources, sources_of}
 use Rattle.places.proofs.Sources.{passed_on}
-use Rattle.texels.specs.Texels as Texels
-use Rattle.paint.specs.Paint.{painted}
-use Rattle.decode.specs.Pictures.{texel_count, picture_length, off_of, texel, picture_bytes, lacks_palette, lacks_data, ready, decoded, picture_of}
+use Rattle.paint.specs.Paint.{painted, IndexedFits}
+use Rattle.decode.specs.Pictures.{texel_count, picture_length, texel, texel_in, picture_bytes, lacks_palette, lacks_data, ready, decoded, picture_of}
 use Rattle.decode.specs.Checks.{Decodable, lacks_room, checked}
-use Rattle.compressed.specs.Blocks.{compressed_texel}
-use Rattle.paint.proofs.Quads.{length_quads}
+use Rattle.compressed.specs.Blocks.{PictureFits}
+use Rattle.paint.proofs.Quads.{length_quads, painted_same}
 use Rattle.texels.proofs.Texels.{format1_four, formats2to4_four, format5_four, format6_four, format7_four}
 
 -- a word's sizes: 8 times a number each
@@ -117,6 +116,9 @@ module _ (w length1 length2 : ℕ) (palette : Option ℕ) (room : ℕ) where
         is = rw (hl, hf, hd, hs);
       }
 
+-- for the function that checks in this order
+pub ruleset checks = (no_palette_lem, no_texels, no_data, no_room, all_there)
+
 -- a picture's length
 module _ (s : Sources) where
   texel_four : (n : ℕ) → length (texel s n) ≡ 4
@@ -203,38 +205,13 @@ module _ (s : Sources) where
         }))
 
 -- texels by format
-module _ (s : Sources) (n : ℕ) where
-  pub texel1 : format s.word ≡ 1 → texel s n ≡ Texels.format1 s.parts.data1 s.pal_block (off_of s.palette) n
+module _ (s : Sources) {f : ℕ} (is : format s.word ≡ f) where
+  pub texel_by : (n : ℕ) → texel s n ≡ texel_in f s n
   unfolding texel
-  texel1 e = rw e
+  texel_by n = rw is
 
-  pub texel2 : format s.word ≡ 2
-      → texel s n ≡ Texels.formats2to4 2 (color0_transparent s.word) s.parts.data1 s.pal_block (off_of s.palette) n
-  unfolding texel
-  texel2 e = rw e
-
-  pub texel3 : format s.word ≡ 3
-      → texel s n ≡ Texels.formats2to4 4 (color0_transparent s.word) s.parts.data1 s.pal_block (off_of s.palette) n
-  unfolding texel
-  texel3 e = rw e
-
-  pub texel4 : format s.word ≡ 4
-      → texel s n ≡ Texels.formats2to4 8 (color0_transparent s.word) s.parts.data1 s.pal_block (off_of s.palette) n
-  unfolding texel
-  texel4 e = rw e
-
-  pub texel5 : format s.word ≡ 5
-      → texel s n ≡ compressed_texel (width s.word) s.parts.data1 s.parts.data2 s.pal_block (off_of s.palette) n
-  unfolding texel
-  texel5 e = rw e
-
-  pub texel6 : format s.word ≡ 6 → texel s n ≡ Texels.format6 s.parts.data1 s.pal_block (off_of s.palette) n
-  unfolding texel
-  texel6 e = rw e
-
-  pub texel7 : format s.word ≡ 7 → texel s n ≡ Texels.format7 s.parts.data1 n
-  unfolding texel
-  texel7 e = rw e
+  pub painted_by : {n : ℕ} (out : List ℕ) → n ≡ texel_count s.word → painted (texel_in f s) n out ≡ painted (texel s) (texel_count s.word) out
+  painted_by out e = painted_same _ _ out (λ i. texel_by i) e
 
 -- the lengths of the data, by format
 module _ (w : ℕ) where
@@ -245,6 +222,36 @@ module _ (w : ℕ) where
   pub second_by : format w ≡ 5 → second_length w ≡ data_length w / 2
   unfolding second_length
   second_by e = rw (eq-eqb (format w) 5 e)
+
+-- what the loops of a format ask for, of a texture that can be decoded
+module _ {w length1 length2 output : ℕ} (d : Decodable w length1 length2 output) where
+  bits_there : {n f : ℕ} → n ≡ texel_count w → format w ≡ f → n * bits_per_texel f ≤ 8 * length1
+  bits_there {n} {f} count is =
+      let m = (eights w).across * (eights w).down in
+      let bits = bits_per_texel f in
+      let all : texel_count w * bits ≡ 8 * (8 * m * bits) = rw ((eights w).texels, ← mul_assoc 8 (8 * m) bits, ← mul_assoc 8 8 m) refl in
+      rw count (omega (arith, d.data1, length_by w is, all))
+
+  pub indexed_fits : {n f : ℕ} → n ≡ texel_count w → n < 2 ^ 32 → format w ≡ f → 0 < bits_per_texel f → bits_per_texel f ≤ 8
+      → IndexedFits (bits_per_texel f) n length1 output
+  indexed_fits count small is some byte =
+      record { some = some; byte = byte; small = small; there = bits_there count is; room = omega (arith, count, d.room) }
+
+  pub direct_fits : {n : ℕ} → n ≡ texel_count w → format w ≡ 7 → (4 * n ≤ output) × (2 * n ≤ length1)
+  direct_fits count is = (omega (arith, count, d.room), omega (arith, bits_there count is))
+
+  pub picture_fits : format w ≡ 5 → PictureFits (width w) (height w) length1 length2 output
+  picture_fits is =
+      let e = eights w in
+      let there = bits_there refl is in
+      record {
+        fours = omega (arith, e.wide);
+        rows = omega (arith, e.high);
+        some = omega (arith, e.wide, e.some);
+        data1 = omega (arith, e.blocks, e.texels, there);
+        data2 = omega (arith, e.blocks, e.texels, length_by w is, second_by w is, d.data2);
+        room = omega (arith, d.room);
+      }
 
 -- a picture from a block, by what was located
 module _ (n : ℕ) (choice : Option ℕ) (a : Answer Contents) where

@@ -1,5 +1,5 @@
 -- Pictures: texels in order, direct decoding, and a picture from a block. Assumes nothing.
-use Rattle.std.specs.Prelude.{ℕ, ◌*◌, ◌/◌, ◌%◌, Bool, false, cond, ◌||◌, List, length, ltb, eqb, Option, None, Some}
+use Rattle.std.specs.Prelude.{ℕ, ◌*◌, ◌/◌, ◌%◌, Bool, false, cond, ◌||◌, List, length, ltb, eqb, Option, None, Some, unwrap_or}
 use Rattle.util.specs.Outcome.{Outcome, result, refusal, ◌>>=◌}
 use Rattle.nds.specs.Params.{width, height, format, color0_transparent}
 use Rattle.nds.specs.Formats.{palette_needed, data_length, second_length}
@@ -18,13 +18,11 @@ picture_length w = 4 * texel_count w
 
 -- A palette's byte offset. Without one no colour is looked up: format 7 has its own, and the others are refused.
 abbrev pub off_of : Option ℕ → ℕ
-off_of None = 0
-off_of (Some p) = p
+off_of palette = unwrap_or palette 0
 
--- Texel n, by the word's format. Format 0 has none.
-unfoldable pub texel : Sources → (n : ℕ) → List ℕ
-texel s n =
-    let f = format s.word in
+-- Texel n of a picture in format f. Format 0 has none.
+abbrev pub texel_in : (f : ℕ) → Sources → (n : ℕ) → List ℕ
+texel_in f s n =
     let bit29 = color0_transparent s.word in
     let w = width s.word in
     let texels = s.parts.data1 in
@@ -35,6 +33,10 @@ texel s n =
     (cond (eqb f 4) (Texels.formats2to4 8 bit29 texels s.pal_block p n)
     (cond (eqb f 5) (Texels.format5 w texels s.parts.data2 s.pal_block p (n % w) (n / w))
     (cond (eqb f 6) (Texels.format6 texels s.pal_block p n) (Texels.format7 texels n))))))
+
+-- And by the word's format.
+unfoldable pub texel : Sources → (n : ℕ) → List ℕ
+texel s n = texel_in (format s.word) s n
 
 -- "Texels run by rows from the top left, four output bytes R, G, B, A each": the bytes of all texels, one behind the other.
 unfoldable pub picture_bytes : Sources → List ℕ

@@ -20,24 +20,18 @@ fn num_texels(params: TextureParams) -> usize
 }
 
 // Whether the texture's format needs a palette that was not chosen.
+#[tactic(auto, unfolding(nds::specs::Formats::desc))]
 fn lacks_palette(params: TextureParams, palette: Option<u32>) -> bool
     ensures { result ≡ Pictures.lacks_palette params.0 palette }
 {
-    let desc = params.format().desc();
-    match palette {
-        None => desc.requires_palette,
-        Some(_) => false,
-    }
+    palette.is_none() && params.format().desc().requires_palette
 }
 
 // Whether the data are shorter than the texture's word says.
 fn lacks_data(params: TextureParams, len1: usize, len2: usize) -> bool
     ensures { result ≡ Pictures.lacks_data params.0 len1 len2 }
 {
-    if len1 < params.byte_len() {
-        return true;
-    }
-    len2 < params.byte_len2()
+    len1 < params.byte_len() || len2 < params.byte_len2()
 }
 
 // Whether the output is shorter than the picture.
@@ -48,6 +42,7 @@ fn lacks_room(params: TextureParams, room: usize) -> bool
 }
 
 // Whether data of these lengths can be decoded, to an output of room bytes.
+#[tactic(auto, using(crate::proofs::Pictures::checks))]
 fn check(
     params: TextureParams,
     len1: usize,
@@ -57,30 +52,19 @@ fn check(
 ) -> Result<(), Refusal>
     ensures { result_outcome result ≡ Checks.checked params.0 len1 len2 palette room }
 {
-    let no_palette = lacks_palette(params, palette);
-    let format = params.format();
-    let no_data = lacks_data(params, len1, len2);
-    let no_room = lacks_room(params, room);
-    if no_palette {
+    if lacks_palette(params, palette) {
         return Err(Refusal::NoPalette);
     }
-    if format.0 == 0 {
+    if params.format().0 == 0 {
         return Err(Refusal::NoTexels);
     }
-    if no_data {
+    if lacks_data(params, len1, len2) {
         return Err(Refusal::ShortData);
     }
-    if no_room {
+    if lacks_room(params, room) {
         return Err(Refusal::Output);
     }
     Ok(())
-}
-
-// The offset of a palette, or 0 where there is none.
-fn off_of(palette: Option<u32>) -> u32
-    ensures { result ≡ Pictures.off_of palette }
-{
-    palette.unwrap_or(0)
 }
 
 // Writes all texels, by the texture's format.
@@ -96,10 +80,9 @@ fn decode_format(
     ensures { out.new ≡ Paint.painted (Pictures.texel (Pictures.sources params.0 data1.now data2.now palette pal.now)) (Pictures.texel_count params.0) out.old }
 {
     let n = num_texels(params);
-    let off = off_of(palette);
+    let off = palette.unwrap_or(0);
     let clear0 = params.is_color0_transparent();
-    let format = params.format().0;
-    match format {
+    match params.format().0 {
         1 => decode_format1(out, n, data1, pal, off),
         2 => decode_format2(out, n, data1, pal, off, clear0),
         3 => decode_format3(out, n, data1, pal, off, clear0),
