@@ -34,12 +34,12 @@ def calls(pattern):
 
 
 def lines():
-    for size, x, lo, hi in calls(r"fields(\d+)\((\w+), (\d+), (\d+)\)"):
+    for size, x, lo, hi in calls(r"field\(b\"bits_u(\d+) \", (0x[0-9a-f]+)u\d+, (\d+), (\d+)\)"):
         yield "bits_u%d %d\n" % (size, model.bits(size, x, lo, hi))
     for block in (BLOCK, b""):
         for p, n in calls(r"taken\(buf, (\d+), (\d+)\)"):
             yield taken(block, p, n)
-    for size, p in calls(r"peeked\(peek_u(\d+)\(buf, (\d+)\)\)"):
+    for size, p in calls(r"peeked\(peek::<u(\d+)>\(buf, (\d+)\)\)"):
         yield peeked(BLOCK, p, size // 8)
     for block in (BLOCK, b""):
         for p, n in calls(r"peeked\(nth_u16\(buf, (\d+), (\d+)\)\)"):

@@ -33,12 +33,12 @@ def peek(block, width, p):
 
 source = open(os.path.join(os.path.dirname(os.path.abspath(__file__)), "src", "main.rt"), encoding="utf-8").read()
 block = "TEX0abcd"
-for width, x, lo, hi in re.findall(r"^    fields(\d+)\((\w+), (\d+), (\d+)\)", source, re.M):
+for width, x, lo, hi in re.findall(r"^    field\(b\"bits_u(\d+) \", (0x[0-9a-f]+)u\d+, (\d+), (\d+)\)", source, re.M):
     print("bits_u%s %d" % (width, bits(int(width), int(x, 16), int(lo), int(hi))))
 for buf in (block, ""):
     for p, n in re.findall(r"^    taken\(buf, (\d+), (\d+)\)", source, re.M):
         take(buf, int(p), int(n))
-for width, p in re.findall(r"^    peeked\(peek_u(\d+)\(buf, (\d+)\)\)", source, re.M):
+for width, p in re.findall(r"^    peeked\(peek::<u(\d+)>\(buf, (\d+)\)\)", source, re.M):
     peek(block, int(width), int(p))
 for buf in (block, ""):
     for p, n in re.findall(r"^    peeked\(nth_u16\(buf, (\d+), (\d+)\)\)", source, re.M):

@@ -9,7 +9,7 @@ use name_report::texts;
 use nitro::tex;
 use report::{STDIN_FILENO, number, text};
 use rows_report::all_rows;
-use util::cur::{peek_u32, take_at};
+use util::cur::{peek, take_at};
 
 // Prints every answer for a block.
 fn show(block: &[u8]) {
@@ -39,7 +39,7 @@ fn show(block: &[u8]) {
 
 // Shows the block whose length stands at pos, and answers where the next one begins, or the input's length where there is none.
 fn show_at(input: &[u8], pos: usize) -> usize {
-    let len = match peek_u32(input, pos) {
+    let len = match peek::<u32>(input, pos) {
         Ok(len) => len as usize,
         Err(_) => return input.len(),
     };

@@ -4,8 +4,9 @@
 
 use cursor::{nth_u16, part_at};
 use report::{decimal, text};
-use util::bits::{bits_u8, bits_u16, bits_u32};
-use util::cur::{Needed, peek_u8, peek_u16, peek_u32, take_at};
+use util::bits::bits;
+use util::cur::{Needed, peek, take_at};
+use util::unsigned::Unsigned;
 
 // Writes a number and the end of the line.
 fn number(n: u64) {
@@ -22,22 +23,10 @@ fn short(needed: Needed) {
     number(needed.low as u64);
 }
 
-// Writes bits lo to hi - 1 of 8.
-fn fields8(x: u8, lo: u32, hi: u32) {
-    text(b"bits_u8 ");
-    number(bits_u8(x, lo, hi) as u64);
-}
-
-// The same of 16.
-fn fields16(x: u16, lo: u32, hi: u32) {
-    text(b"bits_u16 ");
-    number(bits_u16(x, lo, hi) as u64);
-}
-
-// The same of 32.
-fn fields32(x: u32, lo: u32, hi: u32) {
-    text(b"bits_u32 ");
-    number(bits_u32(x, lo, hi) as u64);
+// Writes bits lo to hi - 1 of a number, behind the name of its type.
+fn field<T: Unsigned>(name: &[u8], x: T, lo: u32, hi: u32) {
+    text(name);
+    number(u64::from(bits(x, lo, hi).into()));
 }
 
 // Whether the take passes, and the part that it hands out.
@@ -66,25 +55,25 @@ fn peeked(answer: Result<u32, Needed>) {
 
 // Bit fields, also empty ones and ones that exceed the number.
 fn bit_fields() {
-    fields8(0xe5, 0, 5);
-    fields8(0xe5, 5, 8);
-    fields8(0xe5, 0, 8);
-    fields8(0xe5, 7, 8);
-    fields8(0xe5, 8, 8);
-    fields8(0xe5, 5, 2);
-    fields8(0xe5, 0, 9);
-    fields8(0xe5, 0, 4294967295);
-    fields16(0xabcd, 0, 14);
-    fields16(0xabcd, 14, 16);
-    fields16(0xabcd, 0, 16);
-    fields16(0xabcd, 15, 17);
-    fields16(0xabcd, 16, 16);
-    fields32(0xabcdef00, 8, 16);
-    fields32(0xabcdef00, 16, 28);
-    fields32(0xabcdef00, 0, 32);
-    fields32(0xabcdef00, 31, 32);
-    fields32(0xabcdef00, 32, 33);
-    fields32(0xabcdef00, 4294967295, 0);
+    field(b"bits_u8 ", 0xe5u8, 0, 5);
+    field(b"bits_u8 ", 0xe5u8, 5, 8);
+    field(b"bits_u8 ", 0xe5u8, 0, 8);
+    field(b"bits_u8 ", 0xe5u8, 7, 8);
+    field(b"bits_u8 ", 0xe5u8, 8, 8);
+    field(b"bits_u8 ", 0xe5u8, 5, 2);
+    field(b"bits_u8 ", 0xe5u8, 0, 9);
+    field(b"bits_u8 ", 0xe5u8, 0, 4294967295);
+    field(b"bits_u16 ", 0xabcdu16, 0, 14);
+    field(b"bits_u16 ", 0xabcdu16, 14, 16);
+    field(b"bits_u16 ", 0xabcdu16, 0, 16);
+    field(b"bits_u16 ", 0xabcdu16, 15, 17);
+    field(b"bits_u16 ", 0xabcdu16, 16, 16);
+    field(b"bits_u32 ", 0xabcdef00u32, 8, 16);
+    field(b"bits_u32 ", 0xabcdef00u32, 16, 28);
+    field(b"bits_u32 ", 0xabcdef00u32, 0, 32);
+    field(b"bits_u32 ", 0xabcdef00u32, 31, 32);
+    field(b"bits_u32 ", 0xabcdef00u32, 32, 33);
+    field(b"bits_u32 ", 0xabcdef00u32, 4294967295, 0);
 }
 
 // Takes at the buffer's limits.
@@ -106,16 +95,16 @@ fn takes(buf: &[u8]) {
 
 // Numbers at the buffer's limits.
 fn numbers(buf: &[u8]) {
-    peeked(peek_u8(buf, 0));
-    peeked(peek_u8(buf, 7));
-    peeked(peek_u8(buf, 8));
-    peeked(peek_u16(buf, 1));
-    peeked(peek_u16(buf, 6));
-    peeked(peek_u16(buf, 7));
-    peeked(peek_u32(buf, 0));
-    peeked(peek_u32(buf, 4));
-    peeked(peek_u32(buf, 5));
-    peeked(peek_u32(buf, 18446744073709551612));
+    peeked(peek::<u8>(buf, 0));
+    peeked(peek::<u8>(buf, 7));
+    peeked(peek::<u8>(buf, 8));
+    peeked(peek::<u16>(buf, 1));
+    peeked(peek::<u16>(buf, 6));
+    peeked(peek::<u16>(buf, 7));
+    peeked(peek::<u32>(buf, 0));
+    peeked(peek::<u32>(buf, 4));
+    peeked(peek::<u32>(buf, 5));
+    peeked(peek::<u32>(buf, 18446744073709551612));
 }
 
 // The same for numbers that are counted from a position on.

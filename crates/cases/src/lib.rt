@@ -7,13 +7,13 @@ ghost use Rattle.std.specs.Prelude.{◌≡◌, ℕ, ◌<◌, length, get_or, dro
 ghost use Rattle.cases.specs.Cases.{field_of, named_by, pattern_at, added, added_all};
 
 use cursor::part_at;
-use util::cur::peek_u32;
+use util::cur::peek;
 
 // The number of 4 bytes at pos, or 0 where there is none.
 pub fn field(bytes: &[u8], pos: usize) -> u32
     ensures { result ≡ field_of pos bytes.now }
 {
-    peek_u32(bytes, pos).unwrap_or(0)
+    peek::<u32>(bytes, pos).unwrap_or(0)
 }
 
 // The bytes of the input that a case names: their position stands in the case at `at`, and their length behind it.

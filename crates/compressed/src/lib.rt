@@ -10,7 +10,7 @@ ghost use Rattle.compressed.specs.Blocks as Blocks;
 
 use modes::block_color;
 use paint::{pixel_at, put_pixel};
-use util::view::view_u16;
+use util::unsigned::Unsigned;
 
 // Writes the four texels that a block's texels are chosen from.
 fn block_colors(table: &mut [u8], pal: &[u8], off: u32, extra: u16)
@@ -65,7 +65,7 @@ fn put_blocks(
     let mut i: usize = 0;
     while i < num_blocks_x {
         let b = num_blocks_x * row + i;
-        block_colors(&mut table, pal, off, view_u16(data2, 2 * b));
+        block_colors(&mut table, pal, off, u16::view(data2, 2 * b));
         put_block(out, width, 4 * i, data1, b, &table);
         i += 1;
     }

@@ -7,7 +7,7 @@ ghost use Rattle.util.specs.Take.{taken_outcome, peek_of, taken_part, taken_to};
 ghost use Rattle.cursor.specs.Cursor.{bytes, taken_on};
 
 use util::cur::{Needed, take_at};
-use util::view::view_u16;
+use util::unsigned::Unsigned;
 
 // A slice and a position in it, which may be beyond the end.
 #[derive(Clone, Copy)]
@@ -24,7 +24,7 @@ impl<'a> Cur<'a> {
     {
         let before = 2 * (n as usize);
         take_at(self.buf, self.pos, before + 2)?;
-        Ok(view_u16(self.buf, self.pos + before) as u32)
+        Ok(u16::view(self.buf, self.pos + before) as u32)
     }
 
     // The n bytes at the position, which moves behind them, as the part of the slice that they occupy. A short take hands out the empty part

@@ -9,7 +9,7 @@ ghost use Rattle.direct.specs.Words as Words;
 
 use paint::put_pixel;
 use texels::{direct, extend_5bit_to_8bit};
-use util::view::view_u16;
+use util::unsigned::Unsigned;
 
 // Direct colour texture, each texel by itself.
 fn decode_small_format7(out: &mut [u8], num_texels: usize, data1: &[u8])
@@ -18,7 +18,7 @@ fn decode_small_format7(out: &mut [u8], num_texels: usize, data1: &[u8])
 {
     let mut n: usize = 0;
     while n < num_texels {
-        put_pixel(out, n, direct(view_u16(data1, 2 * n)));
+        put_pixel(out, n, direct(u16::view(data1, 2 * n)));
         n += 1;
     }
 }

@@ -9,7 +9,7 @@ ghost use Rattle.info_block.specs.InfoBlock as InfoBlock;
 use errors::{Kind, Refusal};
 use name::Name;
 use scripts::take;
-use util::view::{view_u8, view_u16};
+use util::unsigned::Unsigned;
 
 // The size of an entry's datum.
 fn datum_size(kind: Kind) -> usize
@@ -28,8 +28,8 @@ fn read_whole(block: &[u8], kind: Kind, pos: usize, c: usize) -> Result<usize, R
 {
     let size = datum_size(kind);
     take(block, pos, 16 + 4 * c + size * c + 16 * c)?;
-    let dummy = view_u8(block, pos);
-    let size_of_datum = view_u16(block, pos + (12 + 4 * c)) as usize;
+    let dummy = u8::view(block, pos);
+    let size_of_datum = u16::view(block, pos + (12 + 4 * c)) as usize;
     if dummy != 0 {
         return Err(Refusal::Dummy(kind));
     }
@@ -45,7 +45,7 @@ pub fn read(block: &[u8], kind: Kind, pos: u32) -> Result<usize, Refusal>
 {
     let pos = pos as usize;
     take(block, pos, 2)?;
-    let c = view_u8(block, pos + 1) as usize;
+    let c = u8::view(block, pos + 1) as usize;
     read_whole(block, kind, pos, c)
 }
 

@@ -9,7 +9,7 @@ ghost use Rattle.layout.specs.Positions as Positions;
 
 use errors::Kind;
 use nds::texture_params::TextureParams;
-use util::view::{view_u16, view_u32};
+use util::unsigned::Unsigned;
 
 #[derive(Clone, Copy)]
 pub struct Header {
@@ -65,7 +65,7 @@ pub fn params_at(block: &[u8], pos: usize, count: usize, n: usize) -> TexturePar
     requires { (pos + list_length kinds.Texture count ≤ length block.now) × (n < count) }
     ensures { result.0 ≡ entry_number kinds.Texture 4 (list_at kinds.Texture pos count block.now) n }
 {
-    TextureParams(view_u32(block, pos + (16 + 4 * count + 8 * n)))
+    TextureParams(u32::view(block, pos + (16 + 4 * count + 8 * n)))
 }
 
 // The offset of palette n, in bytes.
@@ -73,7 +73,7 @@ pub fn off_at(block: &[u8], pos: usize, count: usize, n: usize) -> u32
     requires { (pos + list_length kinds.Palette count ≤ length block.now) × (n < count) }
     ensures { result ≡ 8 * entry_number kinds.Palette 2 (list_at kinds.Palette pos count block.now) n }
 {
-    8 * (view_u16(block, pos + (16 + 4 * count + 4 * n)) as u32)
+    8 * (u16::view(block, pos + (16 + 4 * count + 4 * n)) as u32)
 }
 
 // The length of the list of the kind.

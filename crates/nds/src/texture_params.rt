@@ -5,7 +5,7 @@ ghost use Rattle.nds.specs.Wrap.{wrap_of};
 
 use crate::texture_formats::TextureFormat;
 use crate::wrap::{Wrap, wrap_axis};
-use util::bits::bits_u32;
+use util::bits::bits;
 
 #[derive(Clone, Copy)]
 pub struct TextureParams(pub u32);
@@ -15,7 +15,7 @@ fn bit(x: u32, k: u32) -> bool
     requires { k < 32 }
     ensures { result ≡ Params.has_bit k x }
 {
-    bits_u32(x, k, k + 1) != 0
+    bits(x, k, k + 1) != 0
 }
 
 impl TextureParams {
@@ -23,7 +23,7 @@ impl TextureParams {
     pub fn offset(self) -> u32
         ensures { result ≡ Params.offset self.0 }
     {
-        bits_u32(self.0, 0, 16) << 3
+        bits(self.0, 0, 16) << 3
     }
 
     pub fn repeat_s(self) -> bool
@@ -54,20 +54,20 @@ impl TextureParams {
     pub fn width(self) -> u32
         ensures { result ≡ Params.width self.0 }
     {
-        8 << bits_u32(self.0, 20, 23)
+        8 << bits(self.0, 20, 23)
     }
 
     // In texels.
     pub fn height(self) -> u32
         ensures { result ≡ Params.height self.0 }
     {
-        8 << bits_u32(self.0, 23, 26)
+        8 << bits(self.0, 23, 26)
     }
 
     pub fn format(self) -> TextureFormat
         ensures { result.0 ≡ Params.format self.0 }
     {
-        TextureFormat(bits_u32(self.0, 26, 29) as u8)
+        TextureFormat(bits(self.0, 26, 29) as u8)
     }
 
     pub fn is_color0_transparent(self) -> bool
@@ -79,7 +79,7 @@ impl TextureParams {
     pub fn texcoord_transform_mode(self) -> u8
         ensures { result ≡ Params.transform_mode self.0 }
     {
-        bits_u32(self.0, 30, 32) as u8
+        bits(self.0, 30, 32) as u8
     }
 
     pub fn wrap_s(self) -> Wrap

@@ -9,7 +9,7 @@ ghost use Rattle.one.specs.One as One;
 
 use modes::block_color;
 use texels::{a3_to_a5, direct, index_at, indexed, palette_color, rgb555a5};
-use util::view::{view_u16, view_u32};
+use util::unsigned::Unsigned;
 
 // Texel n of format 1.
 pub fn texel1(data1: &[u8], pal: &[u8], off: u32, n: usize) -> [u8; 4]
@@ -42,7 +42,7 @@ pub fn texel7(data1: &[u8], n: usize) -> [u8; 4]
     requires { 2 * n + 2 ≤ length data1.now }
     ensures { result ≡ Texels.format7 data1.now n }
 {
-    direct(view_u16(data1, 2 * n))
+    direct(u16::view(data1, 2 * n))
 }
 
 // The two bits of the texel in column x and row y.
@@ -52,7 +52,7 @@ fn block_texel(data1: &[u8], width: usize, x: usize, y: usize) -> u8
 {
     let b = width / 4 * (y / 4) + x / 4;
     let place = 4 * (y % 4) + x % 4;
-    ((view_u32(data1, 4 * b) >> (2 * place)) & 3) as u8
+    ((u32::view(data1, 4 * b) >> (2 * place)) & 3) as u8
 }
 
 // The extra of the block that the texel in column x and row y is in.
@@ -61,7 +61,7 @@ fn block_extra(data2: &[u8], width: usize, x: usize, y: usize) -> u16
     ensures { result ≡ One.block_extra width data2.now x y }
 {
     let b = width / 4 * (y / 4) + x / 4;
-    view_u16(data2, 2 * b)
+    u16::view(data2, 2 * b)
 }
 
 // The texel of format 5 in column x and row y.

@@ -17,7 +17,7 @@ use errors::{Kind, Refusal};
 use layout::{Header, Layout, data1_pos, data2_pos, pal_block_len, params_at};
 use nds::texture_params::TextureParams;
 use scripts::take;
-use util::view::{view_u16, view_u32};
+use util::unsigned::Unsigned;
 
 // Whether the block begins with TEX0.
 #[tactic(auto, using(crate::proofs::Readings::stamp_starts, crate::proofs::Readings::stamp_there))]
@@ -34,13 +34,13 @@ fn header_of(block: &[u8]) -> Header
     ensures { result ≡ Tex.header_of (first_bytes 60 block.now) }
 {
     Header {
-        texture_off: view_u16(block, 14),
-        tex_block_off: view_u32(block, 20),
-        compressed1_block_off: view_u32(block, 36),
-        compressed2_block_off: view_u32(block, 40),
-        pal_block_len_shr_3: view_u16(block, 48),
-        palette_off: view_u32(block, 52),
-        pal_block_off: view_u32(block, 56),
+        texture_off: u16::view(block, 14),
+        tex_block_off: u32::view(block, 20),
+        compressed1_block_off: u32::view(block, 36),
+        compressed2_block_off: u32::view(block, 40),
+        pal_block_len_shr_3: u16::view(block, 48),
+        palette_off: u32::view(block, 52),
+        pal_block_off: u32::view(block, 56),
     }
 }
 

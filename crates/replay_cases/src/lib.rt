@@ -2,7 +2,7 @@
 
 #![tactic(auto)]
 
-use util::cur::{Needed, peek_u8, peek_u32};
+use util::cur::{Needed, peek};
 
 // The file descriptor of standard input.
 const STDIN_FILENO: i32 = 0;
@@ -29,14 +29,14 @@ pub fn next_bytes(buffer: &mut [u8], len: usize) -> Result<(), Broken> {
 pub fn next_u8() -> Result<u32, Needed> {
     let mut bytes = [0; 1];
     let n = io::read_full(STDIN_FILENO, &mut bytes);
-    peek_u8(&bytes[..n], 0)
+    peek::<u8>(&bytes[..n], 0)
 }
 
 // The list's next number of 4 bytes.
 fn next_u32() -> Result<u32, Needed> {
     let mut bytes = [0; 4];
     let n = io::read_full(STDIN_FILENO, &mut bytes);
-    peek_u32(&bytes[..n], 0)
+    peek::<u32>(&bytes[..n], 0)
 }
 
 // Reads a length, and as many bytes.

@@ -8,14 +8,14 @@ use cursor::part_at;
 use direct_answers::{Request, direct_agrees};
 use nds::texture_params::TextureParams;
 use replay_cases::{Broken, MAX_PART, next_bytes, next_part};
-use util::cur::peek_u8;
+use util::cur::peek;
 
 // The length of what stands between a direct decoding's first byte and its first data.
 const HEAD: usize = 21;
 
 // Whether a direct decoding has a palette.
 fn has_palette(head: &[u8]) -> bool {
-    peek_u8(head, 4).unwrap_or(0) != 0
+    peek::<u8>(head, 4).unwrap_or(0) != 0
 }
 
 // A direct decoding's palette.

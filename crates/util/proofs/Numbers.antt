@@ -1,12 +1,13 @@
 -- The laws of `number_at`, over the number of bytes. Assumes nothing.
 use Prim.Native.Nat.{ℕ, zero, suc, ◌+◌, ◌*◌, ◌^◌, ◌≤◌, ◌<◌}
-use mathlib.Core.Path.{◌≡◌, sym, ap, ◌∙◌}
+use mathlib.Core.Path.{◌≡◌, refl, sym, ap, ◌∙◌}
 use mathlib.Core.List.{List, [], ◌∷◌, ◌++◌}
 use native.Mathlib.Omega.{arith}
 use native.Mathlib.Nat.{pow-zero, pow-suc, mul_assoc, mul_comm, one-mul, one-le-pow}
 use lib.ListN.{length, take, drop, get_or, length-drop}
 use lib.Seq.{take-add, drop-drop, drop-cons, get_or-drop, length-take-le}
 use lib.Dec.{lit<}
+use Rattle.std.specs.Int.{w16, w32, from_le_bytes}
 use Rattle.util.specs.Number.{little_endian, number_at}
 use Rattle.util.proofs.Parts.{part_of_part}
 
@@ -31,6 +32,21 @@ module _ (p : ℕ) (b : List ℕ) where
       sym
       (ap little_endian (take-add m n (drop p b))
       ∙ (little_append (take m (drop p b)) (take n (drop m (drop p b))) ∙ rw (e, drop-drop m p b)))
+
+-- what std makes of the bytes of a number is the number
+module _ (p : ℕ) (b : List ℕ) where
+  pub number_of_2 : p + 2 ≤ length b → from_le_bytes w16 (get_or b p 0 ∷ get_or b (p + 1) 0 ∷ []) ≡ number_at 2 p b
+  number_of_2 h =
+      let e : from_le_bytes w16 (get_or b p 0 ∷ get_or b (p + 1) 0 ∷ []) ≡ get_or b p 0 + get_or b (p + 1) 0 * 256 ^ 1 = refl in
+      omega (arith, e, number_add p b 1 1 (omega arith), number_one p b (omega arith), number_one (p + 1) b (omega arith))
+
+  pub number_of_4 : p + 4 ≤ length b
+      → from_le_bytes w32 (get_or b p 0 ∷ get_or b (p + 1) 0 ∷ get_or b (p + 2) 0 ∷ get_or b (p + 3) 0 ∷ []) ≡ number_at 4 p b
+  number_of_4 h =
+      let e : from_le_bytes w32 (get_or b p 0 ∷ get_or b (p + 1) 0 ∷ get_or b (p + 2) 0 ∷ get_or b (p + 3) 0 ∷ [])
+      ≡ get_or b p 0 + get_or b (p + 1) 0 * 256 ^ 1 + get_or b (p + 2) 0 * 256 ^ 2 + get_or b (p + 3) 0 * 256 ^ 3 = refl in
+      omega
+      (arith, e, number_one p b (omega arith), number_one (p + 1) b (omega arith), number_one (p + 2) b (omega arith), number_one (p + 3) b (omega arith), number_add p b 1 1 (omega arith), number_add p b 2 1 (omega arith), number_add p b 3 1 (omega arith))
 
 -- a number of `size` bytes at p of the m bytes at q
 pub number_in_part : (size p q m : ℕ) (b : List ℕ) → p + size ≤ m → number_at size p (take m (drop q b)) ≡ number_at size (q + p) b

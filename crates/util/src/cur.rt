@@ -4,7 +4,7 @@
 ghost use Rattle.std.specs.Prelude.{◌≡◌, ◌+◌, length};
 ghost use Rattle.util.specs.Take.{length_of, taken_outcome, take_of, peek_of};
 
-use crate::view::{view_u8, view_u16, view_u32};
+use crate::unsigned::Unsigned;
 
 // The length that a short take needs, what document 01 calls its want. It may exceed 64 bits: it is low, and 2^64 more where carry is set.
 #[derive(Clone, Copy)]
@@ -45,29 +45,11 @@ pub fn take_at(buf: &[u8], pos: usize, n: usize) -> Result<usize, Needed>
     Ok(end.low)
 }
 
-// The number of 1 byte at pos.
+// The little-endian number at pos, of as many bytes as the type has.
 #[tactic(auto, using(crate::proofs::Takes::passes, crate::proofs::Takes::took, crate::proofs::Takes::same_short))]
-pub fn peek_u8(buf: &[u8], pos: usize) -> Result<u32, Needed>
-    ensures { taken_outcome result ≡ peek_of 1 pos buf.now }
+pub fn peek<T: Unsigned>(buf: &[u8], pos: usize) -> Result<u32, Needed>
+    ensures { taken_outcome result ≡ peek_of T.SIZE pos buf.now }
 {
-    take_at(buf, pos, 1)?;
-    Ok(view_u8(buf, pos) as u32)
-}
-
-// The little-endian number of 2 bytes at pos.
-#[tactic(auto, using(crate::proofs::Takes::passes, crate::proofs::Takes::took, crate::proofs::Takes::same_short))]
-pub fn peek_u16(buf: &[u8], pos: usize) -> Result<u32, Needed>
-    ensures { taken_outcome result ≡ peek_of 2 pos buf.now }
-{
-    take_at(buf, pos, 2)?;
-    Ok(view_u16(buf, pos) as u32)
-}
-
-// The little-endian number of 4 bytes at pos.
-#[tactic(auto, using(crate::proofs::Takes::passes, crate::proofs::Takes::took, crate::proofs::Takes::same_short))]
-pub fn peek_u32(buf: &[u8], pos: usize) -> Result<u32, Needed>
-    ensures { taken_outcome result ≡ peek_of 4 pos buf.now }
-{
-    take_at(buf, pos, 4)?;
-    Ok(view_u32(buf, pos))
+    take_at(buf, pos, T::SIZE)?;
+    Ok(T::view(buf, pos).into())
 }

@@ -4,4 +4,4 @@
 
 pub mod bits;
 pub mod cur;
-pub mod view;
+pub mod unsigned;

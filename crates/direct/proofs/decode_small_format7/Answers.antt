@@ -23,7 +23,7 @@ loop-n-preserved c =
     let room : 4 * c.loop-n.n + 4 ≤ length c.args.out.now = omega arith in
     let texel : let a = c.args in
     c.direct.result ≡ format7 a.data1.now c.loop-n.n = let a = c.args in
-    c.direct.ensures ∙ rw c.view_u16.ensures in (
+    c.direct.ensures ∙ rw c.view.ensures in (
       omega arith,
       rw c.put_pixel.ensures
           (paint_more _ _ c.loop-n.invariant.1 (texel) (format7_four _ _) (room)),

@@ -11,8 +11,8 @@ use Rattle.scripts.proofs.Runs.{take_within, refused}
 use Rattle.info_block.proofs.Lists.{head_follows, counted}
 use Rattle.info_block.proofs.read.Goals as goal
 
-pub view_u8-c-requires : goal.view_u8-c-requires
-view_u8-c-requires c =
+pub view-c-requires : goal.view-c-requires
+view-c-requires c =
     let there : let a = c.args in a.pos + 2 ≤ length a.block.now = omega (arith, take_within _ _ _ c.in_ok-take.ensures) in
     omega (arith, there)
 
@@ -24,7 +24,7 @@ pub returns : goal.returns
 returns c =
     let there : let a = c.args in a.pos + 2 ≤ length a.block.now = omega (arith, take_within _ _ _ c.in_ok-take.ensures) in
     let a = c.args in
-    let count = sym c.view_u8-c.ensures in
+    let count = sym c.view-c.ensures in
     c.read_whole.ensures
     ∙ ap (λ x. outcome_of x (λ list. result list.count))
     (sym (counted a.kind a.pos a.block.now (there) ∙ rw count))

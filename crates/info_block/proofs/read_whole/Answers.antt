@@ -22,8 +22,8 @@ overflow_add-c-3 c = omega (arith, data_small c.args.kind _ c.datum_size-size.en
 pub take-requires : goal.take-requires
 take-requires c = omega (arith, data_small c.args.kind _ c.datum_size-size.ensures c.requires.1)
 
-pub view_u8-dummy-requires : goal.view_u8-dummy-requires
-view_u8-dummy-requires c =
+pub view-dummy-requires : goal.view-dummy-requires
+view-dummy-requires c =
     let there : let a = c.args in a.pos + list_length a.kind a.c ≤ length a.block.now = omega (
       arith,
       rw c.datum_size-size.ensures
@@ -31,8 +31,8 @@ view_u8-dummy-requires c =
     ) in
     omega (arith, there)
 
-pub view_u16-size_of_datum-requires : goal.view_u16-size_of_datum-requires
-view_u16-size_of_datum-requires c =
+pub view-size_of_datum-requires : goal.view-size_of_datum-requires
+view-size_of_datum-requires c =
     let there : let a = c.args in a.pos + list_length a.kind a.c ≤ length a.block.now = omega (
       arith,
       rw c.datum_size-size.ensures
@@ -47,7 +47,7 @@ returns-then-dummy-ne0 c =
       rw c.datum_size-size.ensures
           at (take_within _ _ _ c.in_ok-take.ensures),
     ) in
-    fault_outcome _ (dummy_bad _ _ _ _ (there) (λ e. c.if-dummy-ne0.true (c.view_u8-dummy.ensures ∙ e)))
+    fault_outcome _ (dummy_bad _ _ _ _ (there) (λ e. c.if-dummy-ne0.true (c.view-dummy.ensures ∙ e)))
 
 pub returns-then-size_of_datum-size : goal.returns-then-size_of_datum-size
 returns-then-size_of_datum-size c =
@@ -57,8 +57,8 @@ returns-then-size_of_datum-size c =
           at (take_within _ _ _ c.in_ok-take.ensures),
     ) in
     fault_outcome _
-    (size_bad _ _ _ _ (there) (omega (arith, c.view_u8-dummy.ensures))
-    (λ e. c.if-size_of_datum-size.true (c.view_u16-size_of_datum.ensures ∙ (e ∙ sym c.datum_size-size.ensures))))
+    (size_bad _ _ _ _ (there) (omega (arith, c.view-dummy.ensures))
+    (λ e. c.if-size_of_datum-size.true (c.view-size_of_datum.ensures ∙ (e ∙ sym c.datum_size-size.ensures))))
 
 pub returns-in_err-take : goal.returns-in_err-take
 returns-in_err-take c =
@@ -72,5 +72,5 @@ returns c =
           at (take_within _ _ _ c.in_ok-take.ensures),
     ) in
     whole_outcome _
-    (list_passes _ _ _ _ (there) (sym c.view_u8-dummy.ensures ∙ c.if-dummy-ne0.false)
-    (sym c.view_u16-size_of_datum.ensures ∙ (c.if-size_of_datum-size.false ∙ c.datum_size-size.ensures)))
+    (list_passes _ _ _ _ (there) (sym c.view-dummy.ensures ∙ c.if-dummy-ne0.false)
+    (sym c.view-size_of_datum.ensures ∙ (c.if-size_of_datum-size.false ∙ c.datum_size-size.ensures)))

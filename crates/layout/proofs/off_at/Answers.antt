@@ -11,5 +11,5 @@ pub returns : goal.returns
 returns c =
     let a = c.args in
     ap (λ (k : ℕ). 8 * k)
-    (c.view_u16.ensures
+    (c.view.ensures
     ∙ sym (number_in_part 2 (datum_at Palette a.count a.n) a.pos (list_length Palette a.count) a.block.now (omega arith)))

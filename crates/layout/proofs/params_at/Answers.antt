@@ -9,5 +9,5 @@ use Rattle.layout.proofs.params_at.Goals as goal
 pub returns : goal.returns
 returns c =
     let a = c.args in
-    c.view_u32.ensures
+    c.view.ensures
     ∙ sym (number_in_part 4 (datum_at Texture a.count a.n) a.pos (list_length Texture a.count) a.block.now (omega arith))

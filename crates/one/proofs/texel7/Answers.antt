@@ -5,4 +5,4 @@ use Rattle.one.proofs.texel7.Goals as goal
 
 pub returns : goal.returns
 unfolding format7
-returns c = c.direct.ensures ∙ ap direct c.view_u16.ensures
+returns c = c.direct.ensures ∙ ap direct c.view.ensures

@@ -20,5 +20,5 @@ pub returns : goal.returns
 returns c =
     let a = c.args in
     let f = in_width 32 a.x a.k (a.k + 1) (omega arith) (omega arith) in
-    let e : c.bits_u32.result ≡ a.x / 2 ^ a.k % 2 = c.bits_u32.ensures ∙ (f ∙ rw (one_bit a.k)) in
+    let e : c.bits.result ≡ a.x / 2 ^ a.k % 2 = c.bits.ensures ∙ (f ∙ rw (one_bit a.k)) in
     rw e (not-zero (a.x / 2 ^ a.k % 2) (omega arith))

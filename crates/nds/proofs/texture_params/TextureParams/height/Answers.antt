@@ -5,4 +5,4 @@ use Rattle.nds.proofs.texture_params.TextureParams.height.Goals as goal
 
 pub returns : goal.returns
 unfolding height
-returns c = rw c.bits_u32.ensures (size_fits _)
+returns c = rw c.bits.ensures (size_fits _)

@@ -5,4 +5,4 @@ use Rattle.nds.proofs.texture_params.TextureParams.width.Goals as goal
 
 pub returns : goal.returns
 unfolding width
-returns c = rw c.bits_u32.ensures (size_fits _)
+returns c = rw c.bits.ensures (size_fits _)
