@@ -23,7 +23,7 @@ use Rattle.scripts.specs.Script.{Answer}
 use Rattle.reading.specs.Tex.{Contents}
 use Rattle.places.specs.Sources.{Sources, sources_of}
 use Rattle.places.proofs.Sources.{passed_on}
-use Rattle.decode.specs.Pictures.{texel_count, picture_length, picture_bytes, ready, decoded, picture_of}
+use Rattle.decode.specs.Pictures.{texel_count, picture_length, picture_bytes, ready, decoded}
 use Rattle.decode.proofs.Pictures.{length_picture, picture_found}
 use Rattle.text.specs.Put.{Room, Put}
 use Rattle.text.proofs.Puts.{PartWrote, part_wrote}
@@ -39,9 +39,9 @@ module _ (n : ℕ) (choice : Option ℕ) (a : Answer Contents) where
   unfolding pam_of
   image_refused r e = passed_on r (sources_of n choice a) _ e
 
-  pub image_found : {s : Sources} → result s ≡ sources_of n choice a → pam_of n choice a ≡ headed (header_text s.word) (picture_of n choice a)
+  pub image_found : {s : Sources} → result s ≡ sources_of n choice a → pam_of n choice a ≡ headed (header_text s.word) (decoded s)
   unfolding pam_of headed ◌>>=◌
-  image_found e = rw (← e)
+  image_found e = rw (← e) (rw (picture_found n choice a e) refl)
 
 -- a picture's length
 pub decoded_length : (s : Sources) {picture : List ℕ} → decoded s ≡ result picture → length picture ≡ picture_length s.word
@@ -57,10 +57,8 @@ texels_some : (w : ℕ) → 0 < texel_count w
 unfolding width height
 texels_some w = mul-pos (mul-pos {m = 8} (lit< tt) (pow_pos _)) (mul-pos {m = 8} (lit< tt) (pow_pos _))
 
-pub picture_some : (n : ℕ) (choice : Option ℕ) (a : Answer Contents) {s : Sources} {picture : List ℕ} → result s ≡ sources_of n choice a
-    → picture_of n choice a ≡ result picture → 0 < length picture
-picture_some n choice a {s} is e =
-    omega (arith, decoded_length s (sym (picture_found n choice a is) ∙ e), texels_some s.word)
+pub picture_some : (s : Sources) (picture : List ℕ) → decoded s ≡ result picture → 0 < length picture
+picture_some s picture e = omega (arith, decoded_length s e, texels_some s.word)
 
 -- bytes stored, and others before them from the start on
 sets_before : (first second entry : List ℕ) → length first + length second ≤ length entry
@@ -123,31 +121,37 @@ module _ (header entry : List ℕ) (made : Outcome (List ℕ)) {at : ℕ} (is : 
           fit false e = let z : ◌≡◌ {A = ℕ} 0 1 = cc (rw (q, e) at w.outcome) in absurd (omega arith)
 
   -- a picture has some bytes, so that where it has room behind the header the header has its room before it
-  module _ {len : ℕ} {part : List ℕ} (w : Writes made (mid_of at (length entry - at) entry) (result len) part) (b : Behind len)
-      (some : 0 < length b.picture) where
+  module _ (some : (picture : List ℕ) → made ≡ result picture → 0 < length picture) {len : ℕ} {part : List ℕ}
+      (w : Writes made (mid_of at (length entry - at) entry) (result len) part) where
+    there : Behind len
+    there = behind w
+
     header_whole : at ≡ length header
-    header_whole = omega (arith, is, b.fits)
+    header_whole = omega (arith, is, there.fits, some there.picture there.made_is)
 
-    both_fit : length header + length b.picture ≤ length entry
-    both_fit = omega (arith, is, b.fits)
+    both_fit : length header + length there.picture ≤ length entry
+    both_fit = omega (arith, is, there.fits, some there.picture there.made_is)
 
-    wrote : PartWrote b.picture entry at (result len) part
-    wrote = part_wrote b.picture entry at (record { fits = omega (arith, header_whole, both_fit) }) (rw b.made_is at w)
+    wrote : PartWrote there.picture entry at (result len) part
+    wrote = part_wrote there.picture entry at (record { fits = omega (arith, header_whole, both_fit) }) (rw there.made_is at w)
 
     pub header_room : Room header (put_mid at (length entry - at) entry part) 0
     header_room = record { fits = rw (wrote.output, length-sets) (omega (arith, both_fit)) }
 
     module _ {exit : List ℕ} {end : ℕ} (p : Put header (put_mid at (length entry - at) entry part) 0 exit end) where
       pub headed_count : end + len ≤ length entry
-      headed_count = omega (arith, p.behind, b.counted, both_fit)
+      headed_count = omega (arith, p.behind, there.counted, both_fit)
 
       pub headed_written : Writes (headed header made) entry (result (end + len)) exit
       unfolding headed ◌>>=◌
       headed_written =
-          rw b.made_is
+          rw there.made_is
           (writes_fits
           (record {
             fits = rw length-append both_fit;
-            ends = rw length-append (omega (arith, p.behind, b.counted));
-            holds = p.output ∙ rw (wrote.output, header_whole) (sets_before header b.picture entry both_fit);
+            ends = rw length-append (omega (arith, p.behind, there.counted));
+            holds =
+                p.output
+                ∙ ap (λ (l : List ℕ). sets l 0 header) (wrote.output ∙ ap (λ (n : ℕ). sets entry n there.picture) header_whole)
+                ∙ sets_before header there.picture entry both_fit;
           }))
