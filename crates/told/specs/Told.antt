@@ -10,7 +10,8 @@ use Rattle.errors.specs.declared.Kind.{Kind}
 use Rattle.scripts.specs.Script.{run}
 use Rattle.reading.specs.Tex.{read_tex}
 use Rattle.rows.specs.Rows.{place_of, rows_of}
-use Rattle.nitro.specs.Calls.{Counts, reading_of, texture_of, palette_of, data1_of, data2_of, pal_block_of}
+use Rattle.nitro.specs.declared.tex.Counts.{Counts}
+use Rattle.nitro.specs.Calls.{reading_of, texture_of, palette_of, data1_of, data2_of, pal_block_of}
 use Rattle.places.specs.Sources.{places_of, pal_place_of}
 use Rattle.nitro.specs.declared.tex.TextureRecord.{TextureRecord}
 use Rattle.nitro.specs.declared.tex.PaletteRecord.{PaletteRecord}

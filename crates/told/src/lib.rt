@@ -3,14 +3,15 @@
 #![tactic(auto)]
 
 ghost use Rattle.std.specs.Prelude.{◌≡◌};
-ghost use Rattle.errors.specs.Refusal.{refusal_number, refusal_returned, result_outcome};
-ghost use Rattle.rows.specs.Rows.{place_of};
+ghost use Rattle.errors.specs.Refusal.{result_outcome};
+ghost use Rattle.rows.specs.Rows as Rows;
 ghost use Rattle.told.specs.Told as Told;
 
 use errors::Refusal;
 use nds::texture_formats::Alpha;
 use nds::wrap::Wrap;
 use nitro::tex::Counts;
+use places::Place;
 
 pub fn wrap_number(wrap: Wrap) -> u32
     ensures { result ≡ Told.wrap_number wrap }
@@ -39,19 +40,18 @@ pub fn choice_of<T: Drop>(has_palette: u32, palette: T) -> Option<T>
     (has_palette != 0).then_some(palette)
 }
 
-// The number of a refusal.
-pub fn code(refusal: Refusal) -> u32
-    ensures { result ≡ refusal_number refusal }
+// The number that a call returns: 0, or the refusal's.
+pub fn code_of<T: Copy>(answer: Result<T, Refusal>) -> u32
+    ensures { result ≡ Told.code_of (result_outcome answer) }
 {
-    refusal.number() as u32
+    answer.err().map_or(0, |refusal| refusal.number() as u32)
 }
 
-// The number of a refusal, and the length that a short block needs.
-pub fn refuse(refusal: Refusal, needed: &mut usize) -> u32
-    ensures { (result ≡ refusal_number refusal) × (needed.new ≡ refusal_returned refusal) }
+// The length that a short block needs, and 0 where the block is not short.
+pub fn needed_of<T: Copy>(answer: Result<T, Refusal>) -> usize
+    ensures { result ≡ Told.needed_of (result_outcome answer) }
 {
-    *needed = refusal.returned();
-    code(refusal)
+    answer.err().map_or(0, Refusal::returned)
 }
 
 // An answer with a length, of a call that is never short.
@@ -59,13 +59,10 @@ pub fn tell_len(answer: Result<usize, Refusal>, len: &mut usize) -> u32
     ensures value { result ≡ Told.code_of (result_outcome answer) }
     ensures len_after { len.new ≡ Told.left len.old Told.itself (result_outcome answer) }
 {
-    match answer {
-        Ok(written) => {
-            *len = written;
-            0
-        }
-        Err(refusal) => code(refusal),
+    if let Ok(written) = answer {
+        *len = written;
     }
+    code_of(answer)
 }
 
 // An answer with a length.
@@ -74,14 +71,8 @@ pub fn tell_count(answer: Result<usize, Refusal>, len: &mut usize, needed: &mut 
     ensures len_after { len.new ≡ Told.left len.old Told.itself (result_outcome answer) }
     ensures needed_after { needed.new ≡ Told.needed_of (result_outcome answer) }
 {
-    match answer {
-        Ok(n) => {
-            *len = n;
-            *needed = 0;
-            0
-        }
-        Err(refusal) => refuse(refusal, needed),
-    }
+    *needed = needed_of(answer);
+    tell_len(answer, len)
 }
 
 // A reading's answer.
@@ -96,36 +87,41 @@ pub fn tell_counts(
     ensures palettes_after { palettes.new ≡ Told.left palettes.old Told.palettes (result_outcome answer) }
     ensures needed_after { needed.new ≡ Told.needed_of (result_outcome answer) }
 {
-    match answer {
-        Ok(counts) => {
-            *textures = counts.textures;
-            *palettes = counts.palettes;
-            *needed = 0;
-            0
-        }
-        Err(refusal) => refuse(refusal, needed),
+    if let Ok(counts) = answer {
+        *textures = counts.textures;
+        *palettes = counts.palettes;
+    }
+    *needed = needed_of(answer);
+    code_of(answer)
+}
+
+// The place of a part that begins at pos: one without bytes is told at 0.
+#[tactic(auto, unfolding(rows::specs::Rows::place_of))]
+pub fn place_of(pos: usize, part: &[u8]) -> Place
+    ensures { result ≡ Rows.place_of pos part.now }
+{
+    Place {
+        pos: if part.is_empty() { 0 } else { pos },
+        len: part.len(),
     }
 }
 
-// A part that begins at pos, of a call that is not declined.
+// An answer with a part's place.
 pub fn tell_part(
-    at: usize,
-    part: &[u8],
+    answer: Result<Place, Refusal>,
     pos: &mut usize,
     len: &mut usize,
     needed: &mut usize,
 ) -> u32
-    ensures value { result ≡ 0 }
-    ensures pos_after { pos.new ≡ Told.pos (place_of at part.now) }
-    ensures len_after { len.new ≡ Told.len (place_of at part.now) }
-    ensures needed_after { needed.new ≡ 0 }
+    ensures value { result ≡ Told.code_of (result_outcome answer) }
+    ensures pos_after { pos.new ≡ Told.left pos.old Told.pos (result_outcome answer) }
+    ensures len_after { len.new ≡ Told.left len.old Told.len (result_outcome answer) }
+    ensures needed_after { needed.new ≡ Told.needed_of (result_outcome answer) }
 {
-    if part.len() == 0 {
-        *pos = 0;
-    } else {
-        *pos = at;
+    if let Ok(place) = answer {
+        *pos = place.pos;
+        *len = place.len;
     }
-    *len = part.len();
-    *needed = 0;
-    0
+    *needed = needed_of(answer);
+    code_of(answer)
 }
