@@ -1,24 +1,36 @@
 -- The laws of records whose names go to an output. Assumes nothing.
 use Prim.Native.Nat.{ℕ, ◌≤◌, ◌<◌}
-use mathlib.Core.Path.{◌≡◌}
+use mathlib.Core.Path.{◌≡◌, refl}
+use mathlib.Core.Bool.{Bool, true, false}
 use mathlib.Core.List.{List}
+use native.Mathlib.Omega.{arith}
+use lib.Dec.{leb}
 use lib.ListN.{length}
-use borrow.Author.Tests.{le-leb, lt-leb}
+use borrow.Author.Tests.{le-leb, lt-leb, leb-true}
 use Rattle.util.specs.Outcome.{Outcome, result, refusal, ◌>>=◌}
 use Rattle.errors.specs.Refusal.{refusal_outcome}
 use Rattle.errors.specs.declared.Refusal.{Refusal}
-use Rattle.places.proofs.Sources.{passed_on}
 use Rattle.told.specs.Told.{named}
 
-module _ {A : Type 0} (output : List ℕ) {answer : Outcome A} where
-  pub named_there : {a : A} → result a ≡ answer → 16 ≤ length output → result a ≡ named output answer
+module _ {A : Type 0} (output : List ℕ) where
+  pub named_there : (a : A) → 16 ≤ length output → named output (result a) ≡ result a
   unfolding named ◌>>=◌
-  named_there e h = rw (← e, le-leb _ _ h)
+  named_there a h = rw (le-leb _ _ h) refl
 
-  pub named_short : {a : A} → result a ≡ answer → length output < 16 → refusal 11 0 ≡ named output answer
+  pub named_short : (a : A) → length output < 16 → named output (result a) ≡ refusal 11 0
   unfolding named ◌>>=◌
-  named_short e h = rw (← e, lt-leb _ _ h)
+  named_short a h = rw (lt-leb _ _ h) refl
 
-  pub named_refused : (r : Refusal) → refusal_outcome r ≡ answer → refusal_outcome r ≡ named output answer
-  unfolding named
-  named_refused r e = passed_on r answer _ e
+  pub named_refused : (r : Refusal) → named {A = A} output (refusal_outcome r) ≡ refusal_outcome r
+  unfolding named ◌>>=◌
+  named_refused r = refl
+
+  -- a record that is not declined has room for its name
+  pub named_room : (answer : Outcome A) {a : A} → result a ≡ named output answer → 16 ≤ length output
+  unfolding named ◌>>=◌
+  named_room (refusal k v) e = let z : ◌≡◌ {A = ℕ} 0 1 = cc in absurd (omega arith)
+  named_room (result b) {a} e = go (leb 16 (length output)) refl
+    where
+      go : (t : Bool) → leb 16 (length output) ≡ t → 16 ≤ length output
+      go true q = leb-true 16 (length output) q
+      go false q = let z : ◌≡◌ {A = ℕ} 0 1 = cc (rw q at e) in absurd (omega arith)

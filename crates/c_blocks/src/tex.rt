@@ -1,12 +1,12 @@
 // Readings and records.
 ghost use Rattle.std.specs.Prelude.{◌≡◌, ◌++◌, ◌≤◌, length, drop};
+ghost use Rattle.errors.specs.Refusal.{result_outcome};
 ghost use Rattle.told.specs.Told as Told;
 
 use errors::Refusal;
 use name::Name;
 use nitro::tex;
-use text::put;
-use told::{alpha_number, refuse, tell_counts, wrap_number};
+use told::{alpha_number, code_of, needed_of, tell_counts, wrap_number};
 
 // Reads the block: how many textures and palettes it has.
 #[unsafe(no_mangle)]
@@ -24,16 +24,28 @@ pub extern "C" fn rasclanya_read_tex(
     tell_counts(tex::read_tex(block), textures, palettes, needed)
 }
 
+// A record whose name goes to an output: declined also where the output has no room for a name.
+#[tactic(auto, using(crate::proofs::Named::named_there, crate::proofs::Named::named_short, crate::proofs::Named::named_refused))]
+fn named<T: Copy>(output: &[u8], answer: Result<T, Refusal>) -> Result<T, Refusal>
+    ensures { result_outcome result ≡ Told.named output.now (result_outcome answer) }
+{
+    let record = answer?;
+    if output.len() < 16 {
+        return Err(Refusal::Output);
+    }
+    Ok(record)
+}
+
 // Writes the 16 bytes of a name to the start of the output.
 fn put_name(out: &mut [u8], name: Name)
     requires { 16 ≤ length out.old }
     ensures { out.new ≡ name.0 ++ drop 16 out.old }
 {
-    let bytes = name.0;
-    put(out, 0, &bytes);
+    out[..16].copy_from_slice(&name.0);
 }
 
 // The record of texture n. Its name goes to the first 16 bytes of an output.
+#[tactic(auto, using(crate::proofs::Named::named_room))]
 #[unsafe(no_mangle)]
 pub extern "C" fn rasclanya_texture(
     block: &[u8],
@@ -53,26 +65,20 @@ pub extern "C" fn rasclanya_texture(
     ensures alpha_after { alpha.new ≡ Told.left alpha.old Told.texture_alpha (Told.texture block.now n name.old) }
     ensures needed_after { needed.new ≡ Told.needed_of (Told.texture block.now n name.old) }
 {
-    let texture = match tex::texture(block, n) {
-        Ok(texture) => texture,
-        Err(refusal) => return refuse(refusal, needed),
-    };
-    if name.len() < 16 {
-        return refuse(Refusal::Output, needed);
+    let record = named(name, tex::texture(block, n));
+    if let Ok(texture) = record {
+        put_name(name, texture.name);
+        *word = texture.params.0;
+        *wrap_s = wrap_number(texture.wrap_s);
+        *wrap_t = wrap_number(texture.wrap_t);
+        *alpha = alpha_number(texture.alpha);
     }
-    let s = texture.wrap_s;
-    let t = texture.wrap_t;
-    let kind = texture.alpha;
-    put_name(name, texture.name);
-    *word = texture.params.0;
-    *wrap_s = wrap_number(s);
-    *wrap_t = wrap_number(t);
-    *alpha = alpha_number(kind);
-    *needed = 0;
-    0
+    *needed = needed_of(record);
+    code_of(record)
 }
 
 // The record of palette n. Its name goes to the first 16 bytes of an output.
+#[tactic(auto, using(crate::proofs::Named::named_room))]
 #[unsafe(no_mangle)]
 pub extern "C" fn rasclanya_palette(
     block: &[u8],
@@ -86,15 +92,11 @@ pub extern "C" fn rasclanya_palette(
     ensures off_after { off.new ≡ Told.left off.old Told.palette_off (Told.palette block.now n name.old) }
     ensures needed_after { needed.new ≡ Told.needed_of (Told.palette block.now n name.old) }
 {
-    let palette = match tex::palette(block, n) {
-        Ok(palette) => palette,
-        Err(refusal) => return refuse(refusal, needed),
-    };
-    if name.len() < 16 {
-        return refuse(Refusal::Output, needed);
+    let record = named(name, tex::palette(block, n));
+    if let Ok(palette) = record {
+        put_name(name, palette.name);
+        *off = palette.off;
     }
-    put_name(name, palette.name);
-    *off = palette.off;
-    *needed = 0;
-    0
+    *needed = needed_of(record);
+    code_of(record)
 }

@@ -1,43 +1,39 @@
 -- The laws of names by slices of any length. Assumes nothing.
-use Prim.Native.Nat.{ℕ, ◌+◌, ◌-◌, ◌≤◌, ◌<◌}
-use mathlib.Core.Path.{◌≡◌, sym, ap, ◌∙◌}
+use Prim.Native.Nat.{ℕ, ◌+◌, ◌-◌, ◌≤◌, ◌<◌, min}
+use mathlib.Core.Path.{◌≡◌, refl, sym, ap, ◌∙◌}
+use mathlib.Core.Bool.{Bool, true, false}
 use mathlib.Core.List.{List, ◌++◌, append-nil}
 use native.Mathlib.Omega.{arith}
-use lib.ListN.{length, take, drop, replicate, length-replicate, replicate-append-replicate}
-use lib.Seq.{take-append-le, take-append-add, take_all, drop-append_seam, length-take-le, sets}
-use Rattle.output.proofs.Outputs.{sets_start}
+use lib.Dec.{leb}
+use lib.ListN.{length, take, drop, replicate}
+use lib.Seq.{take-append-le, take-append-add, take_all}
+use borrow.Author.Tests.{leb-true, leb-false}
+use Rattle.std.proofs.lemmas.List.{take-replicate, drop-replicate}
 use Rattle.told.specs.Told.{name_of}
 
--- a part of a run of zeros
-abbrev zeros : (n : ℕ) → List ℕ
-zeros n = replicate n 0
-
-zeros_first : (k m : ℕ) → take k (zeros (k + m)) ≡ zeros k
-zeros_first k m =
-    let long : k ≤ length (zeros k) = rw length-replicate (omega arith) in
-    let short : length (zeros k) ≤ k = rw length-replicate (omega arith) in
-    ap (take k) (sym (replicate-append-replicate k m 0)) ∙ (take-append-le k (zeros k) (zeros m) long ∙ take_all k (zeros k) short)
-
-zeros_last : (k m : ℕ) → drop k (zeros (k + m)) ≡ zeros m
-zeros_last k m =
-    ap (drop k) (sym (replicate-append-replicate k m 0))
-    ∙ (ap (λ n. drop n (zeros k ++ zeros m)) (sym (length-replicate k 0)) ∙ drop-append_seam (zeros k) (zeros m))
-
 -- 16 zeros, and in front of them the bytes of a name that is shorter, and of one that is not
-pub name_padded : (bytes : List ℕ) → length bytes < 16 → sets (replicate 16 0) 0 bytes ≡ name_of bytes
+pub name_padded : (bytes : List ℕ) → length bytes < 16 → bytes ++ drop (length bytes) (replicate 16 0) ≡ name_of bytes
 unfolding name_of
 name_padded bytes h =
-    let n = length bytes in
-    let all : n + (16 - n) ≡ 16 = omega arith in
-    let none : (16 - n) + n ≡ 16 = omega arith in
-    let last : drop n (zeros 16) ≡ zeros (16 - n) = rw all at (zeros_last n (16 - n)) in
-    let first : take (16 - n) (zeros 16) ≡ zeros (16 - n) = rw none at (zeros_first (16 - n) n) in
-    let whole : take 16 (bytes ++ zeros 16) ≡ bytes ++ take (16 - n) (zeros 16) = rw all at (take-append-add bytes (zeros 16) (16 - n)) in
-    sets_start bytes (zeros 16) (omega arith) ∙ (ap (λ rest. bytes ++ rest) (last ∙ sym first) ∙ sym whole)
+    let all : length bytes + (16 - length bytes) ≡ 16 = omega arith in
+    rw (drop-replicate {X = ℕ} (length bytes) 16 0)
+    (ap (λ rest. bytes ++ rest) (sym (take-replicate {X = ℕ} (16 - length bytes) 16 0 (omega arith)))
+    ∙ sym (rw all at (take-append-add bytes (replicate 16 0) (16 - length bytes))))
 
-pub name_cut : (bytes : List ℕ) → 16 ≤ length bytes → sets (replicate 16 0) 0 (take 16 bytes) ≡ name_of bytes
+pub name_cut : (bytes : List ℕ) → 16 ≤ length bytes → take 16 bytes ++ drop 16 (replicate 16 0) ≡ name_of bytes
 unfolding name_of
-name_cut bytes h =
-    let n : length (take 16 bytes) ≡ 16 = length-take-le 16 bytes h in
-    let full : take 16 bytes ++ drop (length (take 16 bytes)) (zeros 16) ≡ take 16 bytes = rw (n, append-nil) in
-    sets_start (take 16 bytes) (zeros 16) (omega (arith, n)) ∙ (full ∙ sym (take-append-le 16 bytes (zeros 16) h))
+name_cut bytes h = rw append-nil (sym (take-append-le 16 bytes (replicate 16 0) h))
+
+-- so it is with the first n bytes, n being the length, or 16 where that is less
+pub name_filled : (bytes : List ℕ) (n : ℕ) → n ≡ min (length bytes) 16 → take n bytes ++ drop n (replicate 16 0) ≡ name_of bytes
+name_filled bytes n e = go (leb 16 (length bytes)) refl
+  where
+    go : (t : Bool) → leb 16 (length bytes) ≡ t → take n bytes ++ drop n (replicate 16 0) ≡ name_of bytes
+    go true q =
+        let h = leb-true 16 (length bytes) q in
+        let whole : n ≡ 16 = omega (arith, e) in
+        rw whole (name_cut bytes h)
+    go false q =
+        let h = leb-false 16 (length bytes) q in
+        let whole : n ≡ length bytes = omega (arith, e) in
+        rw (whole, take_all (length bytes) bytes (omega arith)) (name_padded bytes (omega arith))

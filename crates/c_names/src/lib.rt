@@ -11,18 +11,15 @@ ghost use Rattle.name.specs.Name.{safe_text, display_text};
 ghost use Rattle.told.specs.Told as Told;
 
 use name::Name;
-use text::put;
 use told::tell_len;
 
+#[tactic(auto, using(crate::proofs::Padded::name_filled))]
 fn name_of(bytes: &[u8]) -> Name
     ensures { result.0 ≡ Told.name_of bytes.now }
 {
     let mut name = [0u8; 16];
-    if bytes.len() < 16 {
-        put(&mut name, 0, bytes);
-    } else {
-        put(&mut name, 0, &bytes[..16]);
-    }
+    let len = bytes.len().min(16);
+    name[..len].copy_from_slice(&bytes[..len]);
     Name(name)
 }
 

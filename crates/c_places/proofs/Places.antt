@@ -24,31 +24,31 @@ module _ (b : List ℕ) (n : ℕ) where
     data_parts : (part_at b places.data1 ≡ data1_of n (run read_tex b)) × (part_at b places.data2 ≡ data2_of n (run read_tex b))
     data_parts = sources_data n None _ (located_sources n None b found)
 
-    pub data1_told : result (place_of places.data1.pos (part_at b places.data1)) ≡ data1 b n
+    pub data1_told : data1 b n ≡ result (place_of places.data1.pos (part_at b places.data1))
     unfolding data1 ◌>>=◌
     data1_told = rw (← found, data_parts.0)
 
-    pub data2_told : result (place_of places.data2.pos (part_at b places.data2)) ≡ data2 b n
+    pub data2_told : data2 b n ≡ result (place_of places.data2.pos (part_at b places.data2))
     unfolding data2 ◌>>=◌
     data2_told = rw (← found, data_parts.1)
 
   module _ (r : Refusal) (e : refusal_outcome r ≡ places_of n None b (run read_tex b)) where
-    pub data1_refused : refusal_outcome r ≡ data1 b n
+    pub data1_refused : data1 b n ≡ refusal_outcome r
     unfolding data1
-    data1_refused = passed_on r _ _ e
+    data1_refused = sym (passed_on r _ _ e)
 
-    pub data2_refused : refusal_outcome r ≡ data2 b n
+    pub data2_refused : data2 b n ≡ refusal_outcome r
     unfolding data2
-    data2_refused = passed_on r _ _ e
+    data2_refused = sym (passed_on r _ _ e)
 
 module _ (b : List ℕ) where
-  pub pal_block_told : {place : Place} → result place ≡ pal_place_of b (run read_tex b) → result (place_of place.pos (part_at b place)) ≡ pal_block b
+  pub pal_block_told : {place : Place} → result place ≡ pal_place_of b (run read_tex b) → pal_block b ≡ result (place_of place.pos (part_at b place))
   unfolding pal_block ◌>>=◌
   pal_block_told found = rw (← found, placed_part b found)
 
-  pub pal_block_refused : (r : Refusal) → refusal_outcome r ≡ pal_place_of b (run read_tex b) → refusal_outcome r ≡ pal_block b
+  pub pal_block_refused : (r : Refusal) → refusal_outcome r ≡ pal_place_of b (run read_tex b) → pal_block b ≡ refusal_outcome r
   unfolding pal_block
-  pal_block_refused r e = passed_on r _ _ e
+  pal_block_refused r e = sym (passed_on r _ _ e)
 
 -- every place that is told lies within the block, and has the part
 module _ {A : Type 0} (at : A → Place) (b part : List ℕ) {place : Place} where

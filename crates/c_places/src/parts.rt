@@ -1,11 +1,22 @@
 // Parts of a block, by their places.
 ghost use Rattle.std.specs.Prelude.{◌≡◌};
+ghost use Rattle.places.specs.Sources as Sources;
+ghost use Rattle.rows.specs.Rows as Rows;
 ghost use Rattle.told.specs.Told as Told;
 
 use cursor::part_at;
-use told::{refuse, tell_part};
+use places::{Place, locate, pal_place};
+use told::{place_of, tell_part};
+
+// A place as it is told: that of the bytes that it has in the block.
+fn place_in(block: &[u8], place: Place) -> Place
+    ensures { result ≡ Rows.place_of place.pos (Sources.part_at block.now place) }
+{
+    place_of(place.pos, part_at(block, place.pos, place.len))
+}
 
 // Where in the block the data of texture n are, or a block-compressed texture's first data, and how long it is. An empty part begins at 0.
+#[tactic(auto, using(crate::proofs::Places::data1_told, crate::proofs::Places::data1_refused))]
 #[unsafe(no_mangle)]
 pub extern "C" fn rasclanya_texture_data1(
     block: &[u8],
@@ -19,22 +30,12 @@ pub extern "C" fn rasclanya_texture_data1(
     ensures len_after { len.new ≡ Told.left len.old Told.len (Told.data1 block.now n) }
     ensures needed_after { needed.new ≡ Told.needed_of (Told.data1 block.now n) }
 {
-    match places::locate(block, n, None) {
-        Ok(places) => {
-            let place = places.data1;
-            tell_part(
-                place.pos,
-                part_at(block, place.pos, place.len),
-                pos,
-                len,
-                needed,
-            )
-        }
-        Err(refusal) => refuse(refusal, needed),
-    }
+    let place = locate(block, n, None).map(|places| place_in(block, places.data1));
+    tell_part(place, pos, len, needed)
 }
 
 // Where in the block the second data of texture n are, and how long it is. An empty part begins at 0.
+#[tactic(auto, using(crate::proofs::Places::data2_told, crate::proofs::Places::data2_refused))]
 #[unsafe(no_mangle)]
 pub extern "C" fn rasclanya_texture_data2(
     block: &[u8],
@@ -48,22 +49,12 @@ pub extern "C" fn rasclanya_texture_data2(
     ensures len_after { len.new ≡ Told.left len.old Told.len (Told.data2 block.now n) }
     ensures needed_after { needed.new ≡ Told.needed_of (Told.data2 block.now n) }
 {
-    match places::locate(block, n, None) {
-        Ok(places) => {
-            let place = places.data2;
-            tell_part(
-                place.pos,
-                part_at(block, place.pos, place.len),
-                pos,
-                len,
-                needed,
-            )
-        }
-        Err(refusal) => refuse(refusal, needed),
-    }
+    let place = locate(block, n, None).map(|places| place_in(block, places.data2));
+    tell_part(place, pos, len, needed)
 }
 
 // Where in the block the palette block is, and how long it is. An empty part begins at 0.
+#[tactic(auto, using(crate::proofs::Places::pal_block_told, crate::proofs::Places::pal_block_refused))]
 #[unsafe(no_mangle)]
 pub extern "C" fn rasclanya_pal_block(
     block: &[u8],
@@ -76,16 +67,6 @@ pub extern "C" fn rasclanya_pal_block(
     ensures len_after { len.new ≡ Told.left len.old Told.len (Told.pal_block block.now) }
     ensures needed_after { needed.new ≡ Told.needed_of (Told.pal_block block.now) }
 {
-    match places::pal_place(block) {
-        Ok(place) => {
-            tell_part(
-                place.pos,
-                part_at(block, place.pos, place.len),
-                pos,
-                len,
-                needed,
-            )
-        }
-        Err(refusal) => refuse(refusal, needed),
-    }
+    let place = pal_place(block).map(|place| place_in(block, place));
+    tell_part(place, pos, len, needed)
 }
