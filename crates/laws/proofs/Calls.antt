@@ -22,6 +22,7 @@ use Rattle.reading.specs.Tex.{Palette, Contents, header_of, read_tex}
 use Rattle.reading.specs.Layouts.{layout_answer}
 use Rattle.layout.specs.declared.Layout.{Layout}
 use Rattle.nitro.specs.Calls as Calls
+use Rattle.nitro.specs.declared.tex.Counts.{Counts}
 use Rattle.places.specs.Sources as Sources
 use Rattle.rows.specs.Rows.{rows_in, rows_of}
 use Rattle.places.specs.declared.Place.{Place}
@@ -103,11 +104,15 @@ list_scripted kind pos =
 
 reading_short : (a : Answer Contents) (w : ℕ) → Calls.reading_of a ≡ refusal 1 w → a ≡ short w
 unfolding Calls.reading_of
-reading_short a w e = outcome_short a _ (λ _. result_not {A = Calls.Counts}) w e
+reading_short a w e = outcome_short a _ (λ _. result_not {A = Counts}) w e
+
+-- with anything beside it that stays as it is
+pub reading_keeps : {C : Type 0} (kept : C) → Scripted read_tex (λ b. Calls.reading_of (run read_tex b)) (λ b. kept) kept
+unfolding Calls.reading_of outcome_of
+reading_keeps kept = of_answer read_tex Calls.reading_of (λ _. kept) kept (λ w. (refl, refl)) reading_short
 
 pub reading_scripted : Scripted read_tex (λ b. Calls.reading_of (run read_tex b)) nothing tt
-unfolding Calls.reading_of outcome_of
-reading_scripted = of_answer read_tex Calls.reading_of (λ _. tt {0}) tt (λ w. (refl, refl)) reading_short
+reading_scripted = reading_keeps tt
 
 pub pal_block_scripted : Scripted read_tex (λ b. Calls.reading_of (run read_tex b)) (λ b. Calls.pal_block_of (run read_tex b)) []
 unfolding Calls.reading_of Calls.pal_block_of outcome_of

@@ -16,6 +16,7 @@ use Rattle.reading.specs.Tex.{read_tex}
 use Rattle.reading.specs.Layouts.{layout_answer}
 use Rattle.layout.specs.declared.Layout.{Layout}
 use Rattle.nitro.specs.Calls as Calls
+use Rattle.nitro.specs.declared.tex.Counts.{Counts}
 use Rattle.nitro.specs.declared.tex.TextureRecord.{TextureRecord}
 use Rattle.nitro.specs.declared.tex.PaletteRecord.{PaletteRecord}
 use Rattle.places.specs.Sources.{places_of, pal_place_of}
@@ -53,7 +54,7 @@ abbrev pub block_lay_out : BlockCall Layout (Unit {0})
 block_lay_out = answering (λ b. layout_answer b (run read_tex b))
 
 -- `nitro::tex::read_tex`: a reading's counts.
-abbrev pub block_read_tex : BlockCall Calls.Counts (Unit {0})
+abbrev pub block_read_tex : BlockCall Counts (Unit {0})
 block_read_tex = answering (λ b. Calls.reading_of (run read_tex b))
 
 -- `nitro::tex::texture` and `nitro::tex::palette`: a record, which is blank beside a refusal.
@@ -80,7 +81,7 @@ abbrev pub block_data2 : (i : ℕ) → BlockCall TextureRecord (List ℕ)
 block_data2 i = record { answer = λ b. Calls.texture_of i (run read_tex b); beside = λ b. Calls.data2_of i (run read_tex b); declined = [] }
 
 -- `nitro::tex::pal_block`: the palette block, whose refusal is the reading's.
-abbrev pub block_pal_block : BlockCall Calls.Counts (List ℕ)
+abbrev pub block_pal_block : BlockCall Counts (List ℕ)
 block_pal_block = record { answer = λ b. Calls.reading_of (run read_tex b); beside = λ b. Calls.pal_block_of (run read_tex b); declined = [] }
 
 -- `places::pal_place`: where the palette block is.
