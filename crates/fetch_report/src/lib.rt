@@ -18,8 +18,7 @@ fn short_answers(n: usize) {
 // Fetches a block up to its reading, and prints the answer.
 fn fetched_tex(block: &[u8]) {
     let fetched = fetch_tex(block);
-    let answer = fetched.reading;
-    reading(answer);
+    reading(fetched.answer);
     short_answers(fetched.short_answers);
 }
 
@@ -27,8 +26,7 @@ fn fetched_tex(block: &[u8]) {
 fn fetched_picture(block: &[u8], request: Request, out: &mut [u8]) {
     let choice = request.choice;
     let fetched = fetch_picture(block, request.texture, choice, out);
-    let answer = fetched.picture;
-    counted(answer);
+    counted(fetched.answer);
     short_answers(fetched.short_answers);
     text(b" |");
     number(add_all(1, out));

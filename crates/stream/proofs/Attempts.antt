@@ -1,6 +1,7 @@
 -- 01's fetching run, attempt after attempt, for every call that goes by the reading: it ends, and in what. Assumes nothing.
+use Rattle.std.specs.Prelude.{Option, None, Some}
 use Prim.Native.Nat.{ℕ, zero, suc, ◌+◌, ◌-◌, ◌≤◌, ◌<◌}
-use mathlib.Core.Path.{◌≡◌, refl, sym, ap, ◌∙◌}
+use mathlib.Core.Path.{◌≡◌, refl, sym, ap}
 use mathlib.Core.Bool.{Bool, true, false}
 use mathlib.Core.List.{List, [], ◌∷◌}
 use native.Mathlib.Omega.{arith}
@@ -10,45 +11,27 @@ use borrow.Author.Tests.{leb-true, leb-false}
 use Rattle.util.specs.Outcome.{Outcome, refusal}
 use Rattle.reading.specs.Tex.{read_tex}
 use Rattle.stream.specs.Fetch.{shortness, Call, Stops, Attempts, short_ones, Fetched, reading_call, picture_call, Ran, FetchLaws}
-use Rattle.stream.specs.declared.shortness.Shortness.{Shortness}
-use Rattle.stream.specs.declared.shortness.Shortness.TheVariants.{Needs, Enough}
 use Rattle.laws.proofs.Calls.{Scripted, reading_scripted, picture_scripted}
-use Rattle.stream.proofs.Fetches.{needs_short, Fetching, fetch_start, Ending, Waiting, settled, waiting, fetched}
+use Rattle.stream.proofs.Fetches.{needs_short, Fetching, fetch_start, fetched, fetched_settled, fetched_beyond, fetching_again}
 use Rattle.stream.proofs.Counts.{bound_reached}
-use Rattle.laws.proofs.Prefixes.{prefix_law}
 
 module _ {A B : Type 0} (call : Call A B)
     (scripted : (output : B) → Scripted read_tex (λ b. call.answer b output) (λ b. call.leaves b output) output) (b : List ℕ) where
-  -- an attempt by this call
-  module _ {given count : ℕ} (output : B) (kept : Fetching b given count) where
-    enough : Enough ≡ shortness (call.answer (take given b) output)
-        → Ending (λ b. call.answer b output) (λ b. call.leaves b output) b given (call.answer (take given b) output) count
-    enough e = settled (scripted output) (prefix_law read_tex (scripted output)) b kept refl e
-
-    needs : {w : ℕ} → Needs w ≡ shortness (call.answer (take given b) output)
-        → Waiting (λ b. call.answer b output) (λ b. call.leaves b output) output b given (call.answer (take given b) output) count w
-    needs e = waiting (scripted output) (prefix_law read_tex (scripted output)) b kept refl e
-
   -- one more attempt before is one more short answer
-  one_more : (next : ℕ) (later : List ℕ) (s : Shortness) → short_ones (next ∷ later) s ≡ 1 + short_ones later s
-  one_more next later Enough = omega arith
-  one_more next later (Needs w) = omega arith
+  one_more : (next : ℕ) (later : List ℕ) (s : Option ℕ) → short_ones (next ∷ later) s ≡ 1 + short_ones later s
+  one_more next later None = omega arith
+  one_more next later (Some w) = omega arith
 
   comes : (later : List ℕ) {given count : ℕ} (output : B) {last : Outcome A} {left : B} → Fetching b given count
       → Attempts call b given output later last left → Fetched call b output last left (count + short_ones later (shortness last))
   comes [] {given} {count} output {last} {left} kept (e, l, stops) = go (shortness last) refl stops
     where
-      by : {counted : ℕ} → counted ≡ count + short_ones [] (shortness last)
-          → Ending (λ b. call.answer b output) (λ b. call.leaves b output) b given (call.answer (take given b) output) counted
-          → Fetched call b output last left (count + short_ones [] (shortness last))
-      by c end = fetched call b (sym e ∙ end.full) (sym l ∙ end.left) (sym c ∙ end.counted)
-
-      go : (s : Shortness) → shortness last ≡ s → Stops b s → Fetched call b output last left (count + short_ones [] (shortness last))
-      go Enough q stop = by (rw q (omega arith)) (enough output kept (sym q ∙ ap shortness (sym e)))
-      go (Needs w) q stop = by (rw q (omega arith)) ((needs output kept (sym q ∙ ap shortness (sym e))).beyond stop)
+      go : (s : Option ℕ) → shortness last ≡ s → Stops b s → Fetched call b output last left (count + short_ones [] s)
+      go None q stop = let f = fetched_settled call scripted b kept (sym e) (sym l) (sym q) in fetched call b f.answered f.leaving (omega (arith, f.counted))
+      go (Some w) q stop = let f = fetched_beyond call scripted b kept (sym e) (sym l) (sym q) stop in fetched call b f.answered f.leaving (omega (arith, f.counted))
   comes (next ∷ later) {given} {count} output {last} {left} kept (e, within, more) =
-      let waits = needs output kept (ap shortness (sym e)) in
-      let rest = comes later output (waits.again within refl refl) (rw waits.kept at more) in
+      let again = fetching_again call scripted b kept refl refl (ap shortness (sym e)) within in
+      let rest = comes later output again.1.1 (rw again.1.0 at more) in
       fetched call b rest.answered rest.leaving (omega (arith, one_more next later (shortness last), rest.counted))
 
   -- an attempt, and the run that follows it, if one does
@@ -63,16 +46,16 @@ module _ {A B : Type 0} (call : Call A B)
           → Ran call b w output → Ran call b given output
       again w e within l rest = record { later = w ∷ rest.later; last = rest.last; left = rest.left; is = (e, within, rw l rest.is) }
 
-      go : (s : Shortness) → shortness (call.answer (take given b) output) ≡ s → Ran call b given output
-      go Enough q = stop (rw q tt)
-      go (Needs w) q = pick (leb w (length b)) refl
+      go : (s : Option ℕ) → shortness (call.answer (take given b) output) ≡ s → Ran call b given output
+      go None q = stop (rw q tt)
+      go (Some w) q = pick (leb w (length b)) refl
         where
           pick : (t : Bool) → leb w (length b) ≡ t → Ran call b given output
           pick false z = stop (rw q (leb-false w (length b) z))
           pick true z =
-              let waits = needs output kept (sym q) in
               let within = leb-true w (length b) z in
-              again w (needs_short (sym q)) within waits.kept (onward w waits.past within (waits.again within refl refl))
+              let next = fetching_again call scripted b kept refl refl (sym q) within in
+              again w (needs_short (sym q)) within next.1.0 (onward w next.0 within next.1.1)
 
   ends : (left : ℕ) {given count : ℕ} (output : B) → length b - given ≤ left → Fetching b given count → Ran call b given output
   ends zero output enough kept = attempt output kept (λ next past within more. absurd (omega arith))

@@ -1,5 +1,5 @@
 -- The laws of fetching: what its loop keeps, and what it has where it ends, for every call of the reading. Assumes nothing.
-use Rattle.std.specs.Prelude.{Option}
+use Rattle.std.specs.Prelude.{Option, None, Some}
 use Prim.Native.Nat.{ℕ, ◌+◌, ◌≤◌, ◌<◌}
 use mathlib.Core.Path.{◌≡◌, refl, sym, ◌∙◌}
 use mathlib.Core.Bool.{Bool, true, false}
@@ -15,20 +15,20 @@ use Rattle.reading.specs.Tex.{read_tex}
 use Rattle.scripts.proofs.Early.{early_settled, early_waits}
 use Rattle.stream.specs.Fetch.{shortness, Call, short_answers, Fetched, picture_call}
 use Rattle.laws.specs.Prefix.{Prefix}
-use Rattle.stream.specs.declared.shortness.Shortness.TheVariants.{Needs, Enough}
 use Rattle.laws.proofs.Calls.{Scripted, NotShort}
+use Rattle.laws.proofs.Prefixes.{prefix_law}
 use Rattle.stream.proofs.Counts.{bound}
 
 -- whether an answer is short
 module _ {A : Type 0} where
-  pub enough_not : {o : Outcome A} → Enough ≡ shortness o → NotShort o
+  pub enough_not : {o : Outcome A} → None ≡ shortness o → NotShort o
   enough_not {o = result a} e w q = let z : ◌≡◌ {A = ℕ} 0 1 = cc in omega arith
   enough_not {o = refusal k v} e w q =
       let one : k ≡ 1 = cc in
       let z : ◌≡◌ {A = ℕ} 0 1 = cc (rw one at e) in
       omega arith
 
-  pub needs_short : {o : Outcome A} {w : ℕ} → Needs w ≡ shortness o → o ≡ refusal 1 w
+  pub needs_short : {o : Outcome A} {w : ℕ} → Some w ≡ shortness o → o ≡ refusal 1 w
   needs_short {o = result a} e = let z : ◌≡◌ {A = ℕ} 0 1 = cc in absurd (omega arith)
   needs_short {o = refusal k v} {w} e = go (eqb k 1) refl
     where
@@ -68,13 +68,13 @@ pub record Waiting {B C : Type 0} (answer : List ℕ → Outcome B) (beside : Li
 module _ {B C : Type 0} {answer : List ℕ → Outcome B} {beside : List ℕ → C} {declined : C} (call : Scripted read_tex answer beside declined)
     (law : Prefix answer beside declined) (b : List ℕ) {given count : ℕ} (kept : Fetching b given count) {o : Outcome B}
     (is : o ≡ answer (take given b)) where
-  pub settled : Enough ≡ shortness o → Ending answer beside b given o count
+  pub settled : None ≡ shortness o → Ending answer beside b given o count
   settled enough =
       let at = (law b given (omega (arith, kept.within))).settled (λ w e. enough_not enough w (is ∙ e)) in
       let counts = early_settled read_tex b given kept.within (λ w e. enough_not enough w (is ∙ (call.at_short (take given b) w e).0)) in
       record { full = is ∙ at.0; left = at.1; counted = omega (arith, kept.left, counts.1) }
 
-  pub waiting : {w : ℕ} → Needs w ≡ shortness o → Waiting answer beside declined b given o count w
+  pub waiting : {w : ℕ} → Some w ≡ shortness o → Waiting answer beside declined b given o count w
   waiting {w} needs =
       let short-answer = sym is ∙ needs_short needs in
       let waits = early_waits read_tex b given kept.within (call.only_short (take given b) w short-answer) in
@@ -97,6 +97,28 @@ module _ {B C : Type 0} {answer : List ℕ → Outcome B} {beside : List ℕ →
 module _ {A B : Type 0} (call : Call A B) (b : List ℕ) {output left : B} {last : Outcome A} {count : ℕ} where
   pub fetched : last ≡ call.answer b output → left ≡ call.leaves b output → count ≡ short_answers b → Fetched call b output last left count
   fetched a l c = record { answered = a; leaving = l; counted = c; bounded = omega (arith, c, bound b) }
+
+-- an attempt, given what it answers and the output that it leaves
+module _ {A B : Type 0} (call : Call A B)
+    (scripted : (output : B) → Scripted read_tex (λ b. call.answer b output) (λ b. call.leaves b output) output)
+    (b : List ℕ) {given count : ℕ} (kept : Fetching b given count) {output left : B} {o : Outcome A}
+    (is : o ≡ call.answer (take given b) output) (leaves : left ≡ call.leaves (take given b) output) where
+  -- it is not short, or it is short of more than the block has: fetching ends with it
+  pub fetched_settled : None ≡ shortness o → Fetched call b output o left count
+  fetched_settled enough =
+      let end = settled (scripted output) (prefix_law read_tex (scripted output)) b kept is enough in
+      fetched call b end.full (leaves ∙ end.left) end.counted
+
+  pub fetched_beyond : {w : ℕ} → Some w ≡ shortness o → length b < w → Fetched call b output o left (count + 1)
+  fetched_beyond needs more =
+      let end = (waiting (scripted output) (prefix_law read_tex (scripted output)) b kept is needs).beyond more in
+      fetched call b end.full (leaves ∙ end.left) end.counted
+
+  -- or it is short of no more than that, which is what the next is lent
+  pub fetching_again : {w : ℕ} → Some w ≡ shortness o → w ≤ length b → (given < w) × ((left ≡ output) × Fetching b w (count + 1))
+  fetching_again needs within =
+      let waits = waiting (scripted output) (prefix_law read_tex (scripted output)) b kept is needs in
+      (waits.past, (leaves ∙ waits.kept, waits.again within refl refl))
 
 -- a fetching picture that ends in a refusal leaves every byte of the output as it was
 pub fetched_keeps : (n : ℕ) (choice : Option ℕ) {block output left : List ℕ} {number returned count : ℕ}

@@ -5,7 +5,8 @@ use Rattle.util.specs.Outcome.{Outcome, result, refusal}
 use Rattle.output.specs.Output.{write_outcome, write_output}
 use Rattle.scripts.specs.Script.{run, ends, records}
 use Rattle.reading.specs.Tex.{has_stamp, header_of, read_tex}
-use Rattle.nitro.specs.Calls.{Counts, reading_of}
+use Rattle.nitro.specs.Calls.{reading_of}
+use Rattle.nitro.specs.declared.tex.Counts.{Counts}
 use Rattle.decode.specs.Pictures.{picture_of}
 
 -- Whether an answer is short, which is refusal 1, and then its want.

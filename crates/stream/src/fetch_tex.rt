@@ -1,41 +1,34 @@
-// Fetching a reading: the call over a whole block, lent no more of it than an answer before has asked for.
+// Fetching a reading.
+ghost use Rattle.std.specs.Prelude.{List, ℕ};
 ghost use Rattle.errors.specs.Refusal.{result_outcome};
-ghost use Rattle.stream.specs.Fetch.{Fetched, reading_call};
+ghost use Rattle.scripts.specs.Script.{run};
+ghost use Rattle.reading.specs.Tex as Tex;
+ghost use Rattle.nitro.specs.Calls.{reading_of};
+ghost use Rattle.stream.specs.Fetch as Fetch;
+ghost use Rattle.laws.proofs.Calls.{reading_keeps};
 
-use crate::shortness::shortness;
+use crate::fetch::{Attempt, Fetched, fetch};
 use errors::Refusal;
 use nitro::tex::{Counts, read_tex};
 
 #[derive(Clone, Copy)]
-pub struct FetchedTex {
-    // The last answer.
-    pub reading: Result<Counts, Refusal>,
-    // How many answers were short, the last included.
-    pub short_answers: usize,
+struct Reading;
+
+impl Attempt for Reading {
+    type Answer = Counts;
+
+    ghost call = { λ it. record { answer = λ block output. reading_of (run Tex.read_tex block); leaves = λ block output. output } };
+
+    ghost scripted = { λ it output. reading_keeps output };
+
+    fn attempt(&self, first: &[u8], _out: &mut [u8]) -> Result<Counts, Refusal> {
+        read_tex(first)
+    }
 }
 
 // Reads the block's first 0 bytes, then as many as the last answer needed, until an answer is not short or needs more than the block has.
-pub fn fetch_tex(block: &[u8]) -> FetchedTex
-    ensures { Fetched reading_call block.now tt (result_outcome result.reading) tt result.short_answers }
+pub fn fetch_tex(block: &[u8]) -> Fetched<Counts>
+    ensures { Fetch.Fetched Fetch.reading_call block.now tt (result_outcome result.answer) tt result.short_answers }
 {
-    let len = block.len();
-    let mut given: usize = 0;
-    let mut short_answers: usize = 0;
-    loop {
-        let reading = read_tex(&block[..given]);
-        let Some(needed) = shortness(reading) else {
-            return FetchedTex {
-                reading,
-                short_answers,
-            };
-        };
-        short_answers += 1;
-        if needed > len {
-            return FetchedTex {
-                reading,
-                short_answers,
-            };
-        }
-        given = needed;
-    }
+    fetch(&Reading, block, &mut [])
 }

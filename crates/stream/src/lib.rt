@@ -3,6 +3,9 @@
 
 #![tactic(auto)]
 
+mod fetch;
 pub mod fetch_picture;
 pub mod fetch_tex;
 mod shortness;
+
+pub use fetch::Fetched;

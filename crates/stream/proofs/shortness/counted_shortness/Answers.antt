@@ -1,5 +1,0 @@
--- `stream::shortness::counted_shortness` meets its contract: by the answer's case. Assumes nothing.
-use Rattle.stream.proofs.shortness.counted_shortness.Goals as goal
-
-pub returns-in-Refused : goal.returns-in-Refused
-returns-in-Refused c = rw c.in-Refused.is c.refusal_shortness.ensures
