@@ -25,9 +25,8 @@ pub extern "C" fn rasclanya_fetch_tex(
     ensures needed_after { needed.new ≡ Told.needed_of (Told.reading block.now) }
 {
     let tex_run = fetch_tex(block);
-    let reading = tex_run.reading;
     *short_answers = tex_run.short_answers;
-    tell_counts(reading, textures, palettes, needed)
+    tell_counts(tex_run.answer, textures, palettes, needed)
 }
 
 // Makes the picture of texture n, reading the block as far as each answer needs. Where has_palette is 0 there is no palette.
@@ -50,7 +49,6 @@ pub extern "C" fn rasclanya_fetch_picture(
     ensures needed_after { needed.new ≡ Told.needed_of (write_outcome (Told.picture block.now n has_palette palette) out.old) }
 {
     let picture_run = fetch_picture(block, n, choice_of(has_palette, palette), out);
-    let picture = picture_run.picture;
     *short_answers = picture_run.short_answers;
-    tell_count(picture, len, needed)
+    tell_count(picture_run.answer, len, needed)
 }
