@@ -2,9 +2,9 @@
 use Rattle.std.specs.Prelude.{ℕ, ◌*◌, ◌/◌, Bool, cond, ◌&&◌, ◌||◌, [], ◌∷◌, get_or, leb, eqb}
 use Rattle.nds.specs.Params as Params
 use Rattle.nds.specs.declared.texture_formats.Alpha.{Alpha}
-use Rattle.nds.specs.declared.texture_formats.Alpha.TheVariants as alphas
+use Rattle.nds.specs.declared.texture_formats.Alpha.TheVariants.{Opaque, Transparent, Translucent}
 use Rattle.nds.specs.declared.texture_formats.AlphaDesc.{AlphaDesc}
-use Rattle.nds.specs.declared.texture_formats.AlphaDesc.TheVariants.{Opaque, Transparent, TransparentDependingOnParams, Translucent}
+use Rattle.nds.specs.declared.texture_formats.AlphaDesc.TheVariants.{Always, TransparentDependingOnParams}
 use Rattle.nds.specs.declared.texture_formats.FormatDesc.{FormatDesc}
 
 -- 01, "Records": "bits per texel 0, 8, 2, 4, 8, 2, 8, 16"
@@ -19,8 +19,8 @@ palette_needed f = leb 1 f && leb f 6
 -- is the case `TransparentDependingOnParams`.
 abbrev pub alpha_desc : ℕ → AlphaDesc
 alpha_desc f =
-    cond (eqb f 0) Opaque
-    (cond (eqb f 1 || eqb f 6) Translucent (cond (eqb f 5 || eqb f 7) Transparent TransparentDependingOnParams))
+    cond (eqb f 0) (Always Opaque)
+    (cond (eqb f 1 || eqb f 6) (Always Translucent) (cond (eqb f 5 || eqb f 7) (Always Transparent) TransparentDependingOnParams))
 
 -- "The formats' facts stand in a table of eight rows (`DESCS`)": row f.
 unfoldable pub desc : ℕ → FormatDesc
@@ -28,10 +28,8 @@ desc f = record { requires_palette = palette_needed f; bpp = bits_per_texel f; a
 
 -- "for 2 to 4 transparent with bit 29, else opaque"
 abbrev pub alpha_with : (bit29 : Bool) → AlphaDesc → Alpha
-alpha_with bit29 Opaque = alphas.Opaque
-alpha_with bit29 Transparent = alphas.Transparent
-alpha_with bit29 Translucent = alphas.Translucent
-alpha_with bit29 TransparentDependingOnParams = cond bit29 alphas.Transparent alphas.Opaque
+alpha_with bit29 (Always a) = a
+alpha_with bit29 TransparentDependingOnParams = cond bit29 Transparent Opaque
 
 unfoldable pub alpha : ℕ → Alpha
 alpha w = alpha_with (Params.color0_transparent w) (alpha_desc (Params.format w))

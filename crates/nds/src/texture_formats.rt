@@ -20,11 +20,10 @@ pub enum Alpha {
 
 #[derive(Clone, Copy)]
 pub enum AlphaDesc {
-    Opaque,
-    Transparent,
+    // Whatever the word says.
+    Always(Alpha),
     // Transparent where the word has colour 0 clear, else opaque.
     TransparentDependingOnParams,
-    Translucent,
 }
 
 #[derive(Clone, Copy)]
@@ -41,13 +40,13 @@ const DESCS: [FormatDesc; 8] = [
     FormatDesc {
         requires_palette: false,
         bpp: 0,
-        alpha_desc: AlphaDesc::Opaque,
+        alpha_desc: AlphaDesc::Always(Alpha::Opaque),
     },
     // 1
     FormatDesc {
         requires_palette: true,
         bpp: 8,
-        alpha_desc: AlphaDesc::Translucent,
+        alpha_desc: AlphaDesc::Always(Alpha::Translucent),
     },
     // 2
     FormatDesc {
@@ -71,42 +70,40 @@ const DESCS: [FormatDesc; 8] = [
     FormatDesc {
         requires_palette: true,
         bpp: 2,
-        alpha_desc: AlphaDesc::Transparent,
+        alpha_desc: AlphaDesc::Always(Alpha::Transparent),
     },
     // 6
     FormatDesc {
         requires_palette: true,
         bpp: 8,
-        alpha_desc: AlphaDesc::Translucent,
+        alpha_desc: AlphaDesc::Always(Alpha::Translucent),
     },
     // 7
     FormatDesc {
         requires_palette: false,
         bpp: 16,
-        alpha_desc: AlphaDesc::Transparent,
+        alpha_desc: AlphaDesc::Always(Alpha::Transparent),
     },
 ];
 
 impl TextureFormat {
+    #[tactic(auto, using(util::proofs::Table::tabulated), unfolding(crate::specs::Formats::desc))]
     pub fn desc(self) -> FormatDesc
         requires { self.0 < 8 }
         ensures { result ≡ Formats.desc self.0 }
     {
-        let i = self.0 as usize;
-        DESCS[i]
+        DESCS[self.0 as usize]
     }
 }
 
 impl TextureParams {
     // The length of the texture's data, of a block-compressed texture's first data, in bytes.
+    #[tactic(auto, using(crate::proofs::Sizes::area_fits, crate::proofs::Sizes::bits_fit), unfolding(crate::specs::Formats::data_length, crate::specs::Formats::desc))]
     pub fn byte_len(self) -> usize
         ensures { result ≡ Formats.data_length self.0 }
     {
-        let desc = self.format().desc();
-        let width = self.width();
-        let height = self.height();
-        let bit_len = width * height * (desc.bpp as u32);
-        bit_len as usize / 8
+        let bits = self.width() * self.height() * u32::from(self.format().desc().bpp);
+        bits as usize / 8
     }
 
     // The length of a block-compressed texture's second data, in bytes. Other textures have none.
@@ -114,8 +111,7 @@ impl TextureParams {
     pub fn byte_len2(self) -> usize
         ensures { result ≡ Formats.second_length self.0 }
     {
-        let format = self.format();
-        if format.0 == 5 {
+        if self.format().0 == 5 {
             self.byte_len() / 2
         } else {
             0
@@ -123,15 +119,12 @@ impl TextureParams {
     }
 
     // Which alphas the texture's texels can have.
+    #[tactic(auto, unfolding(crate::specs::Formats::alpha, crate::specs::Formats::desc))]
     pub fn alpha_type(self) -> Alpha
         ensures { result ≡ Formats.alpha self.0 }
     {
-        let desc = self.format().desc();
-        let alpha_desc = desc.alpha_desc;
-        match alpha_desc {
-            AlphaDesc::Opaque => Alpha::Opaque,
-            AlphaDesc::Transparent => Alpha::Transparent,
-            AlphaDesc::Translucent => Alpha::Translucent,
+        match self.format().desc().alpha_desc {
+            AlphaDesc::Always(alpha) => alpha,
             AlphaDesc::TransparentDependingOnParams => {
                 if self.is_color0_transparent() {
                     Alpha::Transparent

@@ -51,6 +51,7 @@ impl TextureParams {
     }
 
     // In texels.
+    #[tactic(auto, using(crate::proofs::Sizes::size_fits), unfolding(crate::specs::Params::width))]
     pub fn width(self) -> u32
         ensures { result ≡ Params.width self.0 }
     {
@@ -58,6 +59,7 @@ impl TextureParams {
     }
 
     // In texels.
+    #[tactic(auto, using(crate::proofs::Sizes::size_fits), unfolding(crate::specs::Params::height))]
     pub fn height(self) -> u32
         ensures { result ≡ Params.height self.0 }
     {
@@ -85,16 +87,12 @@ impl TextureParams {
     pub fn wrap_s(self) -> Wrap
         ensures { result ≡ wrap_of (Params.repeat_s self.0) (Params.mirror_s self.0) }
     {
-        let repeat_s = self.repeat_s();
-        let mirror_s = self.mirror_s();
-        wrap_axis(repeat_s, mirror_s)
+        wrap_axis(self.repeat_s(), self.mirror_s())
     }
 
     pub fn wrap_t(self) -> Wrap
         ensures { result ≡ wrap_of (Params.repeat_t self.0) (Params.mirror_t self.0) }
     {
-        let repeat_t = self.repeat_t();
-        let mirror_t = self.mirror_t();
-        wrap_axis(repeat_t, mirror_t)
+        wrap_axis(self.repeat_t(), self.mirror_t())
     }
 }

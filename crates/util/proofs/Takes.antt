@@ -38,14 +38,14 @@ module _ {A : Type 0} (len p n : ℕ) (passed : A) where
     where
       go : (t : Bool) → leb (p + n) len ≡ t → Took len p n passed answer
       go true q = record { within = leb-true _ _ q; holds = cc }
-      go false q = let z : ◌≡◌ {A = ℕ} 0 1 = cc in absurd (omega arith)
+      go false q = absurd (cc)
 
   pub lacked : {number needed : ℕ} → refusal number needed ≡ take_of len p n passed → Lacked len p n number needed
   unfolding take_of
   lacked {number} {needed} e = go (leb (p + n) len) refl
     where
       go : (t : Bool) → leb (p + n) len ≡ t → Lacked len p n number needed
-      go true q = let z : ◌≡◌ {A = ℕ} 0 1 = cc in absurd (omega arith)
+      go true q = absurd (cc)
       go false q = record { past = leb-false _ _ q; one = cc; ends = cc }
 
 -- a refusal of a take is one of every take that ends at the same position, whatever it answers when it passes
