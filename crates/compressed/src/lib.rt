@@ -2,26 +2,30 @@
 
 #![tactic(auto)]
 
-ghost use Rattle.std.specs.Prelude.{◌≡◌, ◌+◌, ◌*◌, ◌≤◌, length};
+ghost use Rattle.std.specs.Prelude.{◌≡◌, ◌+◌, ◌*◌, ◌≤◌, ◌<◌, length};
 ghost use Rattle.std.proofs.lemmas.List.Edits.{sets};
 ghost use Rattle.texels.specs.Texels as Texels;
 ghost use Rattle.paint.specs.Paint as Paint;
 ghost use Rattle.compressed.specs.Blocks as Blocks;
 
 use modes::block_color;
-use paint::{pixel_at, put_pixel};
+use paint::{pixel_at, put_pixel, put_texels};
+use texels::Palette;
 use util::unsigned::Unsigned;
 
 // Writes the four texels that a block's texels are chosen from.
-fn block_colors(table: &mut [u8], pal: &[u8], off: u32, extra: u16)
+fn block_colors(table: &mut [u8], palette: Palette, extra: u16)
     requires { 16 ≤ length table.old }
-    ensures { table.new ≡ Paint.painted (Texels.block_color pal.now off extra) 4 table.old }
+    ensures { table.new ≡ Paint.painted (Texels.block_color palette.entry.block.now palette.entry.off extra) 4 table.old }
 {
-    let mut texel: usize = 0;
-    while texel < 4 {
-        put_pixel(table, texel, block_color(pal, off, extra, texel as u8));
-        texel += 1;
-    }
+    put_texels(
+        table,
+        4,
+        |texel|
+            requires { texel < 4 }
+            ensures { result ≡ Texels.block_color palette.entry.block.now palette.entry.off extra texel }
+        { block_color(palette, extra, texel as u8) },
+    );
 }
 
 // Writes a row of a block at texel n: the four texels that the row's byte chooses.
@@ -40,10 +44,8 @@ fn put_block(out: &mut [u8], width: usize, x: usize, data1: &[u8], b: usize, tab
     requires { Blocks.BlockFits width x b (length data1.now) (length table.now) (length out.old) }
     ensures { Blocks.BlockPut width x (λ i. Blocks.row_bytes table.now (Blocks.byte_of data1.now (4 * b + i))) out.old out.new }
 {
-    let mut i: usize = 0;
-    while i < 4 {
+    for i in 0..4 {
         put_row(out, i * width + x, table, data1[4 * b + i]);
-        i += 1;
     }
 }
 
@@ -54,20 +56,17 @@ fn put_blocks(
     row: usize,
     data1: &[u8],
     data2: &[u8],
-    pal: &[u8],
-    off: u32,
+    palette: Palette,
 )
     requires { Blocks.BlocksFit width row (length data1.now) (length data2.now) (length out.old) }
-    ensures { out.new ≡ Paint.painted (Blocks.rows_texel width data1.now data2.now pal.now off row) (4 * width) out.old }
+    ensures { out.new ≡ Paint.painted (Blocks.rows_texel width data1.now data2.now palette.entry.block.now palette.entry.off row) (4 * width) out.old }
 {
     let num_blocks_x = width / 4;
     let mut table = [0u8; 16];
-    let mut i: usize = 0;
-    while i < num_blocks_x {
+    for i in 0..num_blocks_x {
         let b = num_blocks_x * row + i;
-        block_colors(&mut table, pal, off, u16::view(data2, 2 * b));
+        block_colors(&mut table, palette, u16::view(data2, 2 * b));
         put_block(out, width, 4 * i, data1, b, &table);
-        i += 1;
     }
 }
 
@@ -78,17 +77,14 @@ pub fn decode_format5(
     height: usize,
     data1: &[u8],
     data2: &[u8],
-    pal: &[u8],
-    off: u32,
+    palette: Palette,
 )
     requires { Blocks.PictureFits width height (length data1.now) (length data2.now) (length out.old) }
-    ensures { out.new ≡ Paint.painted (Blocks.compressed_texel width data1.now data2.now pal.now off) (width * height) out.old }
+    ensures { out.new ≡ Paint.painted (Blocks.compressed_texel width data1.now data2.now palette.entry.block.now palette.entry.off) (width * height) out.old }
 {
     let num_blocks_y = height / 4;
-    let mut i: usize = 0;
-    while i < num_blocks_y {
+    for i in 0..num_blocks_y {
         let at = 16 * (width * i);
-        put_blocks(&mut out[at..], width, i, data1, data2, pal, off);
-        i += 1;
+        put_blocks(&mut out[at..], width, i, data1, data2, palette);
     }
 }

@@ -11,6 +11,7 @@ use direct::decode_format7;
 use errors::Refusal;
 use nds::texture_params::TextureParams;
 use paint::{decode_format1, decode_format2, decode_format3, decode_format4, decode_format6};
+use texels::Palette;
 
 // The number of texels of a picture.
 fn num_texels(params: TextureParams) -> usize
@@ -80,19 +81,22 @@ fn decode_format(
     ensures { out.new ≡ Paint.painted (Pictures.texel (Pictures.sources params.0 data1.now data2.now palette pal.now)) (Pictures.texel_count params.0) out.old }
 {
     let n = num_texels(params);
-    let off = palette.unwrap_or(0);
+    let palette = Palette {
+        block: pal,
+        off: palette.unwrap_or(0),
+    };
     let clear0 = params.is_color0_transparent();
     match params.format().0 {
-        1 => decode_format1(out, n, data1, pal, off),
-        2 => decode_format2(out, n, data1, pal, off, clear0),
-        3 => decode_format3(out, n, data1, pal, off, clear0),
-        4 => decode_format4(out, n, data1, pal, off, clear0),
+        1 => decode_format1(out, n, data1, palette),
+        2 => decode_format2(out, n, data1, palette, clear0),
+        3 => decode_format3(out, n, data1, palette, clear0),
+        4 => decode_format4(out, n, data1, palette, clear0),
         5 => {
             let width = params.width() as usize;
             let height = params.height() as usize;
-            decode_format5(out, width, height, data1, data2, pal, off)
+            decode_format5(out, width, height, data1, data2, palette)
         }
-        6 => decode_format6(out, n, data1, pal, off),
+        6 => decode_format6(out, n, data1, palette),
         _ => decode_format7(out, n, data1),
     }
 }

@@ -8,36 +8,40 @@ ghost use Rattle.texels.specs.Index as Index;
 ghost use Rattle.one.specs.One as One;
 
 use modes::block_color;
-use texels::{a3_to_a5, direct, index_at, indexed, palette_color, rgb555a5};
+use texels::{Palette, a3_to_a5, direct, index_at, indexed, rgb555a5};
 use util::unsigned::Unsigned;
 
 // Texel n of format 1.
-pub fn texel1(data1: &[u8], pal: &[u8], off: u32, n: usize) -> [u8; 4]
+#[tactic(auto, unfolding(texels::specs::Texels::format1))]
+pub fn texel1(data1: &[u8], palette: Palette, n: usize) -> [u8; 4]
     requires { n < length data1.now }
-    ensures { result ≡ Texels.format1 data1.now pal.now off n }
+    ensures { result ≡ Texels.format1 data1.now palette.entry.block.now palette.entry.off n }
 {
     let x = data1[n];
-    rgb555a5(palette_color(pal, off, (x & 31) as u16), a3_to_a5(x >> 5))
+    rgb555a5(palette.color(u16::from(x & 31)), a3_to_a5(x >> 5))
 }
 
 // Texel n of formats 2 to 4, where a texel has 2, 4 or 8 bits.
-pub fn texel2to4(data1: &[u8], bits: usize, pal: &[u8], off: u32, clear0: bool, n: usize) -> [u8; 4]
+#[tactic(auto, unfolding(texels::specs::Texels::formats2to4))]
+pub fn texel2to4(data1: &[u8], bits: usize, palette: Palette, clear0: bool, n: usize) -> [u8; 4]
     requires { Index.IndexThere bits n (length data1.now) }
-    ensures { result ≡ Texels.formats2to4 bits clear0 data1.now pal.now off n }
+    ensures { result ≡ Texels.formats2to4 bits clear0 data1.now palette.entry.block.now palette.entry.off n }
 {
-    indexed(pal, off, index_at(data1, bits, n), clear0)
+    indexed(palette, index_at(data1, bits, n), clear0)
 }
 
 // Texel n of format 6.
-pub fn texel6(data1: &[u8], pal: &[u8], off: u32, n: usize) -> [u8; 4]
+#[tactic(auto, unfolding(texels::specs::Texels::format6))]
+pub fn texel6(data1: &[u8], palette: Palette, n: usize) -> [u8; 4]
     requires { n < length data1.now }
-    ensures { result ≡ Texels.format6 data1.now pal.now off n }
+    ensures { result ≡ Texels.format6 data1.now palette.entry.block.now palette.entry.off n }
 {
     let x = data1[n];
-    rgb555a5(palette_color(pal, off, (x & 7) as u16), x >> 3)
+    rgb555a5(palette.color(u16::from(x & 7)), x >> 3)
 }
 
 // Texel n of format 7.
+#[tactic(auto, unfolding(texels::specs::Texels::format7))]
 pub fn texel7(data1: &[u8], n: usize) -> [u8; 4]
     requires { 2 * n + 2 ≤ length data1.now }
     ensures { result ≡ Texels.format7 data1.now n }
@@ -65,19 +69,19 @@ fn block_extra(data2: &[u8], width: usize, x: usize, y: usize) -> u16
 }
 
 // The texel of format 5 in column x and row y.
+#[tactic(auto, unfolding(texels::specs::Texels::format5))]
 pub fn texel5(
     data1: &[u8],
     data2: &[u8],
     width: usize,
-    pal: &[u8],
-    off: u32,
+    palette: Palette,
     x: usize,
     y: usize,
 ) -> [u8; 4]
     requires { One.BlockThere width x y (length data1.now) (length data2.now) }
-    ensures { result ≡ Texels.format5 width data1.now data2.now pal.now off x y }
+    ensures { result ≡ Texels.format5 width data1.now data2.now palette.entry.block.now palette.entry.off x y }
 {
     let texel = block_texel(data1, width, x, y);
     let extra = block_extra(data2, width, x, y);
-    block_color(pal, off, extra, texel)
+    block_color(palette, extra, texel)
 }

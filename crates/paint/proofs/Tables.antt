@@ -1,6 +1,6 @@
 -- The laws of a palette written out as a table of texels, and of the texels that are taken from it. Assumes nothing.
 use Prim.Native.Nat.{ℕ, ◌+◌, ◌*◌, ◌/◌, ◌%◌, ◌^◌, ◌≤◌, ◌<◌}
-use mathlib.Core.Path.{◌≡◌, refl, sym, ap, ◌∙◌}
+use mathlib.Core.Path.{◌≡◌, refl, sym, ◌∙◌}
 use mathlib.Core.Bool.{Bool, true, false}
 use mathlib.Core.List.{List}
 use native.Mathlib.Nat.{not-suc-le-zero}
@@ -9,13 +9,12 @@ use lib.ListN.{length, take, drop, get_or, set, replicate, length-drop, length-s
 use lib.Seq.{length-take-le, get_or-set_same, get_or-set_other}
 use lib.Dec.{ltb}
 use borrow.Author.Tests.{ltb-true, ltb-false}
-use lib.Bits.{bit_and, and_mask}
-use Rattle.texels.specs.Texels.{pixel, palette_color, texel_bits, alpha3, format1, indexed, formats2to4, format6}
-use Rattle.paint.specs.Paint.{painted, with_alpha, indexed_texel, Tabled, itself, IndexedFits}
+use Rattle.texels.specs.Texels.{pixel, palette_color, texel_bits, alpha3, a3i5, indexed, formats2to4, a5i3}
+use Rattle.paint.specs.Paint.{painted, with_alpha, pixel_at, indexed_texel, Tabled, IndexedFits}
 use Rattle.texels.specs.Index.{IndexThere}
 use Rattle.paint.proofs.Quads.{Fours, painted_at, painted_room}
 use Rattle.texels.proofs.Index.{row_below, texel_lt}
-use Rattle.texels.proofs.Texels.{indexed_four}
+use Rattle.texels.proofs.Texels.{indexed_four, texel_byte}
 
 -- a table of the first `count` colours
 pub record Table (clear0 : Bool) (pal : List ℕ) (p count : ℕ) (table : List ℕ) : Type 0 where
@@ -73,18 +72,10 @@ module _ (rule : ℕ → ℕ) where
   tabled_all t h = record { long = sym t.long; at = λ k l. t.at k (omega arith) }
 
 -- a texel that is its byte's, from a table of the texels of all bytes
-module _ (texel : ℕ → List ℕ) (four : (k : ℕ) → length (texel k) ≡ 4) (bytes before : List ℕ) {table : List ℕ} where
-  pub byte_texel : Tabled itself bytes → table ≡ painted (λ n. texel (get_or bytes n 0)) 256 before → (texels : List ℕ) (n : ℕ)
-      → get_or texels n 0 < 256 → texel (get_or texels n 0) ≡ indexed_texel 8 texels table n
-  unfolding texel_bits
-  byte_texel all e texels n byte =
-      let x = get_or texels n 0 in
-      let at : n * 8 / 8 ≡ n = omega arith in
-      let whole : n * 8 % 8 ≡ 0 = omega arith in
-      let index : get_or texels (n * 8 / 8) 0 / 2 ^ (n * 8 % 8) % 2 ^ 8 ≡ x = rw (at, whole) (omega (arith, byte)) in
-      sym
-      (rw index
-      (rw e (painted_at (λ n. texel (get_or bytes n 0)) 256 x before (λ k l. four (get_or bytes k 0)) byte) ∙ ap texel (all.at x byte)))
+pub byte_texel : (texel : ℕ → List ℕ) (before : List ℕ) {table : List ℕ} → ((b : ℕ) → length (texel b) ≡ 4) → table ≡ painted texel 256 before
+    → (texels : List ℕ) (n : ℕ) → get_or texels n 0 < 256 → texel (get_or texels n 0) ≡ indexed_texel 8 texels table n
+byte_texel texel before four e texels n byte =
+    rw (e, ← texel_byte texels n byte) (sym (painted_at texel 256 (get_or texels n 0) before (λ b l. four b) byte))
 
 -- formats 1 and 6: its colour is
 other_alpha : (color a : ℕ) → with_alpha (pixel color 31) a ≡ pixel color a
@@ -97,19 +88,13 @@ unfolding indexed
 translucent pal p count t k a h = rw (t.at k h) (other_alpha (palette_color pal p k) a)
 
 -- by the texel's byte
-module _ (texels pal : List ℕ) (p n : ℕ) {table : List ℕ} (byte : get_or texels n 0 < 256) where
-  pub format1_texel : Table false pal p 32 table
-      → with_alpha (take 4 (drop (4 * bit_and (get_or texels n 0) 31) table)) (alpha3 (get_or texels n 0 / 32)) ≡ format1 texels pal p n
-  unfolding format1
-  format1_texel t =
-      let x = get_or texels n 0 in
-      let small : x / 32 % 8 ≡ x / 32 = omega arith in
-      rw (and_mask (get_or texels n 0) 5, small) (translucent pal p 32 t (x % 32) (alpha3 (x / 32)) (omega arith))
+module _ (pal : List ℕ) (p b : ℕ) {table : List ℕ} (byte : b < 256) where
+  pub a3i5_texel : Table false pal p 32 table → with_alpha (pixel_at table (b % 32)) (alpha3 (b / 32)) ≡ a3i5 pal p b
+  a3i5_texel t =
+      let small : b / 32 % 8 ≡ b / 32 = omega arith in
+      rw small (translucent pal p 32 t (b % 32) (alpha3 (b / 32)) (omega arith))
 
-  pub format6_texel : Table false pal p 8 table
-      → with_alpha (take 4 (drop (4 * bit_and (get_or texels n 0) 7) table)) (get_or texels n 0 / 8) ≡ format6 texels pal p n
-  unfolding format6
-  format6_texel t =
-      let x = get_or texels n 0 in
-      let small : x / 8 % 32 ≡ x / 8 = omega arith in
-      rw (and_mask (get_or texels n 0) 3, small) (translucent pal p 8 t (x % 8) (x / 8) (omega arith))
+  pub a5i3_texel : Table false pal p 8 table → with_alpha (pixel_at table (b % 8)) (b / 8) ≡ a5i3 pal p b
+  a5i3_texel t =
+      let small : b / 8 % 32 ≡ b / 8 = omega arith in
+      rw small (translucent pal p 8 t (b % 8) (b / 8) (omega arith))

@@ -7,6 +7,10 @@ use Rattle.texels.specs.Texels.{widen, texel_bits}
 unfoldable pub painted : (texel : ℕ → List ℕ) (n : ℕ) (output : List ℕ) → List ℕ
 painted texel n output = pieces texel n ++ drop (4 * n) output
 
+-- What may be made for each number below count is the texel that f has for it.
+abbrev pub Makes : (post : ℕ → List ℕ → Type 0) (count : ℕ) (f : ℕ → List ℕ) → Type 0
+Makes post count f = (n : ℕ) (made : List ℕ) → n < count → post n made → made ≡ f n
+
 -- A texel's colour with alpha a.
 abbrev pub with_alpha : (pixel : List ℕ) (a : ℕ) → List ℕ
 with_alpha pixel a = get_or pixel 0 0 ∷ get_or pixel 1 0 ∷ get_or pixel 2 0 ∷ widen a ∷ []

@@ -2,12 +2,13 @@
 
 #![tactic(auto)]
 
-ghost use Rattle.std.specs.Prelude.{◌≡◌, ◌+◌, ◌*◌, ◌≤◌, ◌<◌, ◌^◌, length, take, drop};
+ghost use Rattle.std.specs.Prelude.{ℕ, List, ◌≡◌, ◌+◌, ◌*◌, ◌≤◌, ◌<◌, ◌^◌, ◌/◌, ◌%◌, length, slice_index, take, drop};
 ghost use Rattle.std.proofs.lemmas.List.Edits.{sets};
+ghost use Rattle.texels.specs.Index as Index;
 ghost use Rattle.texels.specs.Texels as Texels;
 ghost use Rattle.paint.specs.Paint as Paint;
 
-use texels::{a3_to_a5, extend_5bit_to_8bit, index_at, indexed};
+use texels::{Palette, a3_to_a5, extend_5bit_to_8bit, index_at, indexed};
 
 // Writes texel n of a picture.
 pub fn put_pixel(out: &mut [u8], n: usize, pixel: [u8; 4])
@@ -30,15 +31,151 @@ pub fn pixel_at(table: &[u8], k: usize) -> [u8; 4]
     [table[at], table[at + 1], table[at + 2], table[at + 3]]
 }
 
-// Writes the texels of the colour indices below count, in order.
-fn expand_palette(table: &mut [u8], count: usize, pal: &[u8], off: u32, clear0: bool)
-    requires { (4 * count ≤ length table.old) × (count ≤ 256) }
-    ensures { table.new ≡ Paint.painted (Texels.indexed clear0 pal.now off) count table.old }
+// Writes the first count texels, in order, each as the closure makes it by its number.
+pub fn put_texels<F: Fn(usize) -> [u8; 4]>(out: &mut [u8], count: usize, texel: F)
+    requires room { 4 * count ≤ length out.old }
+    requires callable { (n : ℕ) → n < count → F.pre texel n }
+    ensures { (f : ℕ → List ℕ) → Paint.Makes (F.post texel) count f → out.new ≡ Paint.painted f count out.old }
 {
-    let mut i: usize = 0;
-    while i < count {
-        put_pixel(table, i, indexed(pal, off, i as u8, clear0));
-        i += 1;
+    for n in 0..count {
+        put_pixel(out, n, texel(n));
+    }
+}
+
+// Writes the texels of the colour indices below count, in order.
+fn expand_palette(table: &mut [u8], count: usize, palette: Palette, clear0: bool)
+    requires { (4 * count ≤ length table.old) × (count ≤ 256) }
+    ensures { table.new ≡ Paint.painted (Texels.indexed clear0 palette.entry.block.now palette.entry.off) count table.old }
+{
+    put_texels(
+        table,
+        count,
+        |i|
+            requires { i < 256 }
+            ensures { result ≡ Texels.indexed clear0 palette.entry.block.now palette.entry.off i }
+        { indexed(palette, i as u8, clear0) },
+    );
+}
+
+// Texel n, where its colour index is taken from the data and the texel from the table.
+#[tactic(auto, using(texels::proofs::Index::texel_lt))]
+fn indexed_texel(data1: &[u8], bits: usize, table: &[u8], n: usize) -> [u8; 4]
+    requires { Index.IndexThere bits n (length data1.now) × (4 * 2 ^ bits ≤ length table.now) }
+    ensures { result ≡ Paint.indexed_texel bits data1.now table.now n }
+{
+    pixel_at(table, index_at(data1, bits, n) as usize)
+}
+
+// Writes the texels whose colour indices the data has, each a copy of the table's.
+#[tactic(auto, using(crate::proofs::Tables::index_there))]
+fn put_indexed(out: &mut [u8], num_texels: usize, data1: &[u8], bits: usize, table: &[u8])
+    requires { Paint.IndexedFits bits num_texels (length data1.now) (length out.old) × (4 * 2 ^ bits ≤ length table.now) }
+    ensures { out.new ≡ Paint.painted (Paint.indexed_texel bits data1.now table.now) num_texels out.old }
+{
+    put_texels(
+        out,
+        num_texels,
+        |n|
+            requires { Index.IndexThere bits n (length data1.now) × (4 * 2 ^ bits ≤ length table.now) }
+            ensures { result ≡ Paint.indexed_texel bits data1.entry.now table.entry.now n }
+        { indexed_texel(data1, bits, table, n) },
+    );
+}
+
+// Writes texels of 2, 4 or 8 bits by a table of their colours, which takes SIZE bytes.
+fn decode_by_table<const SIZE: usize>(
+    out: &mut [u8],
+    num_texels: usize,
+    data1: &[u8],
+    bits: usize,
+    palette: Palette,
+    clear0: bool,
+)
+    requires { Paint.IndexedFits bits num_texels (length data1.now) (length out.old) × (SIZE ≡ 4 * 2 ^ bits) }
+    ensures { out.new ≡ Paint.painted (Texels.formats2to4 bits clear0 data1.now palette.entry.block.now palette.entry.off) num_texels out.old }
+{
+    let mut table = [0u8; SIZE];
+    expand_palette(&mut table, SIZE / 4, palette, clear0);
+    put_indexed(out, num_texels, data1, bits, &table);
+}
+
+// 4-colour palette texture.
+pub fn decode_format2(
+    out: &mut [u8],
+    num_texels: usize,
+    data1: &[u8],
+    palette: Palette,
+    clear0: bool,
+)
+    requires { Paint.IndexedFits 2 num_texels (length data1.now) (length out.old) }
+    ensures { out.new ≡ Paint.painted (Texels.formats2to4 2 clear0 data1.now palette.entry.block.now palette.entry.off) num_texels out.old }
+{
+    decode_by_table::<16>(out, num_texels, data1, 2, palette, clear0)
+}
+
+// 16-colour palette texture.
+pub fn decode_format3(
+    out: &mut [u8],
+    num_texels: usize,
+    data1: &[u8],
+    palette: Palette,
+    clear0: bool,
+)
+    requires { Paint.IndexedFits 4 num_texels (length data1.now) (length out.old) }
+    ensures { out.new ≡ Paint.painted (Texels.formats2to4 4 clear0 data1.now palette.entry.block.now palette.entry.off) num_texels out.old }
+{
+    decode_by_table::<64>(out, num_texels, data1, 4, palette, clear0)
+}
+
+// Writes texels that are each a function of its byte.
+fn put_bytes<F: Fn(u8) -> [u8; 4]>(out: &mut [u8], num_texels: usize, data1: &[u8], texel: F)
+    requires fits { Paint.IndexedFits 8 num_texels (length data1.now) (length out.old) }
+    requires callable { F.IsAlwaysCallable texel }
+    ensures { (f : ℕ → List ℕ) → Paint.Makes (F.post texel) 256 f → out.new ≡ Paint.painted (λ n. f (slice_index data1.now n)) num_texels out.old }
+{
+    put_texels(
+        out,
+        num_texels,
+        |n|
+            requires { (n < length data1.now) × F.IsAlwaysCallable texel }
+            ensures { F.post texel (slice_index data1.entry.now n) result }
+        { texel(data1[n]) },
+    );
+}
+
+// Writes texels that are each a function of its byte, by a table of the texels of all bytes.
+fn put_bytes_by_table<F: Fn(u8) -> [u8; 4]>(
+    out: &mut [u8],
+    num_texels: usize,
+    data1: &[u8],
+    texel: F,
+)
+    requires fits { Paint.IndexedFits 8 num_texels (length data1.now) (length out.old) }
+    requires callable { F.IsAlwaysCallable texel }
+    ensures { (f : ℕ → List ℕ) → ((b : ℕ) → length (f b) ≡ 4) → Paint.Makes (F.post texel) 256 f → out.new ≡ Paint.painted (λ n. f (slice_index data1.now n)) num_texels out.old }
+{
+    let mut table = [0u8; 1024];
+    put_texels(
+        &mut table,
+        256,
+        |b|
+            requires { (b < 256) × F.IsAlwaysCallable texel }
+            ensures { F.post texel b result }
+        { texel(b as u8) },
+    );
+    put_indexed(out, num_texels, data1, 8, &table);
+}
+
+// Writes texels that are each a function of its byte. A table is worth its making where there are more texels than bytes.
+fn decode_bytes<F: Fn(u8) -> [u8; 4]>(out: &mut [u8], num_texels: usize, data1: &[u8], texel: F)
+    requires fits { Paint.IndexedFits 8 num_texels (length data1.now) (length out.old) }
+    requires callable { F.IsAlwaysCallable texel }
+    ensures { (f : ℕ → List ℕ) → ((b : ℕ) → length (f b) ≡ 4) → Paint.Makes (F.post texel) 256 f → out.new ≡ Paint.painted (λ n. f (slice_index data1.now n)) num_texels out.old }
+{
+    if num_texels < 512 {
+        put_bytes(out, num_texels, data1, texel)
+    } else {
+        put_bytes_by_table(out, num_texels, data1, texel)
     }
 }
 
@@ -50,194 +187,59 @@ fn with_alpha(pixel: [u8; 4], a5: u8) -> [u8; 4]
     [pixel[0], pixel[1], pixel[2], extend_5bit_to_8bit(a5)]
 }
 
-// A3I5 translucent texture, each texel by itself.
-fn decode_small_format1(out: &mut [u8], num_texels: usize, data1: &[u8], pal: &[u8], off: u32)
-    requires { (4 * num_texels ≤ length out.old) × (num_texels ≤ length data1.now) }
-    ensures { out.new ≡ Paint.painted (Texels.format1 data1.now pal.now off) num_texels out.old }
+// A3I5 translucent texture: 3-bit alpha, 5-bit colour index.
+pub fn decode_format1(out: &mut [u8], num_texels: usize, data1: &[u8], palette: Palette)
+    requires { Paint.IndexedFits 8 num_texels (length data1.now) (length out.old) }
+    ensures { out.new ≡ Paint.painted (Texels.format1 data1.now palette.entry.block.now palette.entry.off) num_texels out.old }
 {
     let mut table = [0u8; 128];
-    expand_palette(&mut table, 32, pal, off, false);
-    let mut n: usize = 0;
-    while n < num_texels {
-        let x = data1[n];
-        let color = pixel_at(&table, (x & 31) as usize);
-        put_pixel(out, n, with_alpha(color, a3_to_a5(x >> 5)));
-        n += 1;
-    }
+    expand_palette(&mut table, 32, palette, false);
+    decode_bytes(
+        out,
+        num_texels,
+        data1,
+        |x|
+            requires { length table ≡ 128 }
+            ensures { result ≡ Paint.with_alpha (Paint.pixel_at table (x % 32)) (Texels.alpha3 (x / 32)) }
+        { with_alpha(pixel_at(&table, (x & 31) as usize), a3_to_a5(x >> 5)) },
+    )
 }
 
-// Writes the texels whose colour indices the data has, each a copy of the table's.
-fn put_indexed(out: &mut [u8], num_texels: usize, data1: &[u8], bits: usize, table: &[u8])
-    requires { Paint.IndexedFits bits num_texels (length data1.now) (length out.old) × (4 * 2 ^ bits ≤ length table.now) }
-    ensures { out.new ≡ Paint.painted (Paint.indexed_texel bits data1.now table.now) num_texels out.old }
-{
-    let mut n: usize = 0;
-    while n < num_texels {
-        put_pixel(out, n, pixel_at(table, index_at(data1, bits, n) as usize));
-        n += 1;
-    }
-}
-
-// Every byte, in order.
-fn all_bytes() -> [u8; 256]
-    ensures { Paint.Tabled Paint.itself result }
-{
-    let mut bytes = [0u8; 256];
-    let mut i: usize = 0;
-    while i < 256 {
-        bytes[i] = i as u8;
-        i += 1;
-    }
-    bytes
-}
-
-// A3I5 translucent texture, by a table of the texels of all bytes.
-fn decode_large_format1(out: &mut [u8], num_texels: usize, data1: &[u8], pal: &[u8], off: u32)
-    requires { Paint.IndexedFits 8 num_texels (length data1.now) (length out.old) }
-    ensures { out.new ≡ Paint.painted (Texels.format1 data1.now pal.now off) num_texels out.old }
-{
-    let bytes = all_bytes();
-    let mut table = [0u8; 1024];
-    decode_small_format1(&mut table, 256, &bytes, pal, off);
-    put_indexed(out, num_texels, data1, 8, &table);
-}
-
-// A3I5 translucent texture: 3-bit alpha, 5-bit colour index. The table is worth its making where there are more texels than bytes.
-pub fn decode_format1(out: &mut [u8], num_texels: usize, data1: &[u8], pal: &[u8], off: u32)
-    requires { Paint.IndexedFits 8 num_texels (length data1.now) (length out.old) }
-    ensures { out.new ≡ Paint.painted (Texels.format1 data1.now pal.now off) num_texels out.old }
-{
-    if num_texels < 512 {
-        decode_small_format1(out, num_texels, data1, pal, off)
-    } else {
-        decode_large_format1(out, num_texels, data1, pal, off)
-    }
-}
-
-// 4-colour palette texture.
-pub fn decode_format2(
-    out: &mut [u8],
-    num_texels: usize,
-    data1: &[u8],
-    pal: &[u8],
-    off: u32,
-    clear0: bool,
-)
-    requires { Paint.IndexedFits 2 num_texels (length data1.now) (length out.old) }
-    ensures { out.new ≡ Paint.painted (Texels.formats2to4 2 clear0 data1.now pal.now off) num_texels out.old }
-{
-    let mut table = [0u8; 16];
-    expand_palette(&mut table, 4, pal, off, clear0);
-    put_indexed(out, num_texels, data1, 2, &table);
-}
-
-// 16-colour palette texture.
-pub fn decode_format3(
-    out: &mut [u8],
-    num_texels: usize,
-    data1: &[u8],
-    pal: &[u8],
-    off: u32,
-    clear0: bool,
-)
-    requires { Paint.IndexedFits 4 num_texels (length data1.now) (length out.old) }
-    ensures { out.new ≡ Paint.painted (Texels.formats2to4 4 clear0 data1.now pal.now off) num_texels out.old }
-{
-    let mut table = [0u8; 64];
-    expand_palette(&mut table, 16, pal, off, clear0);
-    put_indexed(out, num_texels, data1, 4, &table);
-}
-
-// 256-colour palette texture, each texel by itself.
-fn decode_small_format4(
-    out: &mut [u8],
-    num_texels: usize,
-    data1: &[u8],
-    pal: &[u8],
-    off: u32,
-    clear0: bool,
-)
-    requires { Paint.IndexedFits 8 num_texels (length data1.now) (length out.old) }
-    ensures { out.new ≡ Paint.painted (Texels.formats2to4 8 clear0 data1.now pal.now off) num_texels out.old }
-{
-    let mut n: usize = 0;
-    while n < num_texels {
-        put_pixel(out, n, indexed(pal, off, data1[n], clear0));
-        n += 1;
-    }
-}
-
-// 256-colour palette texture, by a table of all colours.
-fn decode_large_format4(
-    out: &mut [u8],
-    num_texels: usize,
-    data1: &[u8],
-    pal: &[u8],
-    off: u32,
-    clear0: bool,
-)
-    requires { Paint.IndexedFits 8 num_texels (length data1.now) (length out.old) }
-    ensures { out.new ≡ Paint.painted (Texels.formats2to4 8 clear0 data1.now pal.now off) num_texels out.old }
-{
-    let mut table = [0u8; 1024];
-    expand_palette(&mut table, 256, pal, off, clear0);
-    put_indexed(out, num_texels, data1, 8, &table);
-}
-
-// 256-colour palette texture. The table is worth its making where there are more texels than colours.
+// 256-colour palette texture.
 pub fn decode_format4(
     out: &mut [u8],
     num_texels: usize,
     data1: &[u8],
-    pal: &[u8],
-    off: u32,
+    palette: Palette,
     clear0: bool,
 )
     requires { Paint.IndexedFits 8 num_texels (length data1.now) (length out.old) }
-    ensures { out.new ≡ Paint.painted (Texels.formats2to4 8 clear0 data1.now pal.now off) num_texels out.old }
+    ensures { out.new ≡ Paint.painted (Texels.formats2to4 8 clear0 data1.now palette.entry.block.now palette.entry.off) num_texels out.old }
 {
-    if num_texels < 512 {
-        decode_small_format4(out, num_texels, data1, pal, off, clear0)
-    } else {
-        decode_large_format4(out, num_texels, data1, pal, off, clear0)
-    }
+    decode_bytes(
+        out,
+        num_texels,
+        data1,
+        |x|
+            ensures { result ≡ Texels.indexed clear0 palette.entry.block.now palette.entry.off x }
+        { indexed(palette, x, clear0) },
+    )
 }
 
-// A5I3 translucent texture, each texel by itself.
-fn decode_small_format6(out: &mut [u8], num_texels: usize, data1: &[u8], pal: &[u8], off: u32)
-    requires { (4 * num_texels ≤ length out.old) × (num_texels ≤ length data1.now) }
-    ensures { out.new ≡ Paint.painted (Texels.format6 data1.now pal.now off) num_texels out.old }
+// A5I3 translucent texture: 5-bit alpha, 3-bit colour index.
+pub fn decode_format6(out: &mut [u8], num_texels: usize, data1: &[u8], palette: Palette)
+    requires { Paint.IndexedFits 8 num_texels (length data1.now) (length out.old) }
+    ensures { out.new ≡ Paint.painted (Texels.format6 data1.now palette.entry.block.now palette.entry.off) num_texels out.old }
 {
     let mut table = [0u8; 32];
-    expand_palette(&mut table, 8, pal, off, false);
-    let mut n: usize = 0;
-    while n < num_texels {
-        let x = data1[n];
-        let color = pixel_at(&table, (x & 7) as usize);
-        put_pixel(out, n, with_alpha(color, x >> 3));
-        n += 1;
-    }
-}
-
-// A5I3 translucent texture, by a table of the texels of all bytes.
-fn decode_large_format6(out: &mut [u8], num_texels: usize, data1: &[u8], pal: &[u8], off: u32)
-    requires { Paint.IndexedFits 8 num_texels (length data1.now) (length out.old) }
-    ensures { out.new ≡ Paint.painted (Texels.format6 data1.now pal.now off) num_texels out.old }
-{
-    let bytes = all_bytes();
-    let mut table = [0u8; 1024];
-    decode_small_format6(&mut table, 256, &bytes, pal, off);
-    put_indexed(out, num_texels, data1, 8, &table);
-}
-
-// A5I3 translucent texture: 5-bit alpha, 3-bit colour index. The table is worth its making where there are more texels than bytes.
-pub fn decode_format6(out: &mut [u8], num_texels: usize, data1: &[u8], pal: &[u8], off: u32)
-    requires { Paint.IndexedFits 8 num_texels (length data1.now) (length out.old) }
-    ensures { out.new ≡ Paint.painted (Texels.format6 data1.now pal.now off) num_texels out.old }
-{
-    if num_texels < 512 {
-        decode_small_format6(out, num_texels, data1, pal, off)
-    } else {
-        decode_large_format6(out, num_texels, data1, pal, off)
-    }
+    expand_palette(&mut table, 8, palette, false);
+    decode_bytes(
+        out,
+        num_texels,
+        data1,
+        |x|
+            requires { length table ≡ 32 }
+            ensures { result ≡ Paint.with_alpha (Paint.pixel_at table (x % 8)) (x / 8) }
+        { with_alpha(pixel_at(&table, (x & 7) as usize), x >> 3) },
+    )
 }

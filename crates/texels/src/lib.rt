@@ -46,6 +46,7 @@ pub fn a3_to_a5(x: u8) -> u8
 }
 
 // The RGBA bytes of a colour and a five-bit alpha.
+#[tactic(auto, unfolding(crate::specs::Texels::pixel))]
 pub fn rgb555a5(rgb555: u16, a5: u8) -> [u8; 4]
     requires { a5 < 32 }
     ensures { result ≡ Texels.pixel rgb555 a5 }
@@ -69,23 +70,35 @@ pub fn palette_color(pal: &[u8], off: u32, i: u16) -> u16
     }
 }
 
+// A palette: the block that it is in, and its offset there.
+#[derive(Clone, Copy)]
+pub struct Palette<'a> {
+    pub block: &'a [u8],
+    pub off: u32,
+}
+
+impl<'a> Palette<'a> {
+    // Colour i.
+    pub fn color(self, i: u16) -> u16
+        ensures { result ≡ Texels.palette_color self.entry.block.now self.entry.off i }
+    {
+        palette_color(self.block, self.off, i)
+    }
+}
+
 // The alpha of a texel of formats 2 to 4 by its colour index. Where clear0 is set, colour 0 is clear.
 fn index_alpha(i: u8, clear0: bool) -> u8
     ensures { (result ≡ Texels.index_alpha clear0 i) × (result < 32) }
 {
-    if clear0 {
-        if i == 0 {
-            return 0;
-        }
-    }
-    31
+    if clear0 && i == 0 { 0 } else { 31 }
 }
 
 // A texel of formats 2 to 4 by its colour index.
-pub fn indexed(pal: &[u8], off: u32, i: u8, clear0: bool) -> [u8; 4]
-    ensures { result ≡ Texels.indexed clear0 pal.now off i }
+#[tactic(auto, unfolding(crate::specs::Texels::indexed))]
+pub fn indexed(palette: Palette, i: u8, clear0: bool) -> [u8; 4]
+    ensures { result ≡ Texels.indexed clear0 palette.entry.block.now palette.entry.off i }
 {
-    rgb555a5(palette_color(pal, off, i as u16), index_alpha(i, clear0))
+    rgb555a5(palette.color(i as u16), index_alpha(i, clear0))
 }
 
 // The colour index of texel n, where a texel has 2, 4 or 8 bits.
@@ -101,8 +114,7 @@ pub fn index_at(data1: &[u8], bits: usize, n: usize) -> u8
 fn direct_alpha(rgb555: u16) -> u8
     ensures { (result ≡ Texels.direct_alpha rgb555) × (result < 32) }
 {
-    let alpha_bit = rgb555 >> 15;
-    if alpha_bit == 0 { 0 } else { 31 }
+    if rgb555 >> 15 == 0 { 0 } else { 31 }
 }
 
 // A texel of format 7 by its colour.

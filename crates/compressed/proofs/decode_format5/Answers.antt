@@ -116,9 +116,9 @@ loop-i-preserved c =
     let at : 16 * (a.width * i) ≡ 4 * (a.width * (4 * i)) = omega (arith, mul_left_comm a.width 4 i) in (
       omega arith,
       rw (mul_next a.width i)
-          (paint_part _ (rows_texel a.width a.data1.now a.data2.now a.pal.now a.off i) _ _ _ _ c.loop-i.invariant.1 at refl
+          (paint_part _ (rows_texel a.width a.data1.now a.data2.now a.palette.block.now a.palette.off i) _ _ _ _ c.loop-i.invariant.1 at refl
           (omega (arith, room, wrote_length c.loop-i.invariant.1))
-          c.put_blocks.ensures (search rules) (λ j. rows_texel_lem a.width _ _ _ a.off i j c.requires.some)),
+          c.put_blocks.ensures (search rules) (λ j. rows_texel_lem a.width _ _ _ a.palette.off i j c.requires.some)),
     )
 
 pub shape_of-out : goal.shape_of-out

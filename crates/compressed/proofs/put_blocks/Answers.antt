@@ -23,7 +23,7 @@ loop-i-preserved c =
       sized,
       blocks_more c.loop-i.invariant.1 (omega arith) _ c.put_block.ensures (omega arith)
           (λ r m.
-          row_texels a.width a.row c.loop-i.i r _ a.data1.now a.data2.now a.pal.now a.off m (omega arith) (omega arith)
+          row_texels a.width a.row c.loop-i.i r _ a.data1.now a.data2.now a.palette.block.now a.palette.off m (omega arith) (omega arith)
           c.view.result c.loop-i.table c.view.ensures c.block_colors.ensures bytes (omega arith))
           (λ r m. length_row_bytes t _ (omega arith))
           kept,

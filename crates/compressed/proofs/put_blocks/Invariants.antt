@@ -1,5 +1,4 @@
 -- `compressed::put_blocks` meets its contract: the loop writes block after block, four rows of texels at once. Assumes nothing.
-use Prim.Native.Nat.{◌-◌}
 use mathlib.Core.Path.{◌≡◌}
 use lib.ListN.{length}
 use Rattle.compressed.specs.Blocks.{rows_texel}
@@ -8,7 +7,4 @@ use Rattle.compressed.proofs.put_blocks.Given as goal
 
 abbrev pub invariant-loop-i : goal.invariant-loop-i
 invariant-loop-i l =
-    (length l.table ≡ 16) × BlocksDone l.width (rows_texel l.width l.data1 l.data2 l.pal l.off l.row) l.i l.initial.out l.out
-
-abbrev pub decreases-loop-i : goal.decreases-loop-i
-decreases-loop-i l = l.num_blocks_x - l.i
+    (length l.table ≡ 16) × BlocksDone l.width (rows_texel l.width l.data1 l.data2 l.palette.block.now l.palette.off l.row) l.i l.initial.out l.out

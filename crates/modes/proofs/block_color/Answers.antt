@@ -6,9 +6,6 @@ use Rattle.texels.specs.Texels.{block_color}
 use Rattle.modes.proofs.Modes.{mode_same}
 use Rattle.modes.proofs.block_color.Goals as goal
 
-pub mode_color-requires : goal.mode_color-requires
-mode_color-requires c = (omega (arith, and_mask c.args.extra 14), omega arith, omega arith)
-
 pub returns : goal.returns
 unfolding block_color
 returns c = let first = and_mask c.args.extra 14 in c.mode_color.ensures ∙ mode_same _ _ _ (omega arith) (omega arith)

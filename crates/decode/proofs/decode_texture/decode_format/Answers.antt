@@ -45,42 +45,42 @@ pub returns-in-1 : goal.returns-in-1
 returns-in-1 c =
     let a = c.args in
     let is : format a.params.0 ≡ 1 = omega (arith, c.format.ensures) in
-    rw c.unwrap_or-off.ensures at c.decode_format1.ensures
+    rw c.unwrap_or.ensures at c.decode_format1.ensures
     ∙ painted_by (sources a.params.0 a.data1.now a.data2.now a.palette a.pal.now) is a.out.now c.num_texels-n.ensures.0
 
 pub returns-in-2 : goal.returns-in-2
 returns-in-2 c =
     let a = c.args in
     let is : format a.params.0 ≡ 2 = omega (arith, c.format.ensures) in
-    rw (c.unwrap_or-off.ensures, c.is_color0_transparent-clear0.ensures) at c.decode_format2.ensures
+    rw (c.unwrap_or.ensures, c.is_color0_transparent-clear0.ensures) at c.decode_format2.ensures
     ∙ painted_by (sources a.params.0 a.data1.now a.data2.now a.palette a.pal.now) is a.out.now c.num_texels-n.ensures.0
 
 pub returns-in-3 : goal.returns-in-3
 returns-in-3 c =
     let a = c.args in
     let is : format a.params.0 ≡ 3 = omega (arith, c.format.ensures) in
-    rw (c.unwrap_or-off.ensures, c.is_color0_transparent-clear0.ensures) at c.decode_format3.ensures
+    rw (c.unwrap_or.ensures, c.is_color0_transparent-clear0.ensures) at c.decode_format3.ensures
     ∙ painted_by (sources a.params.0 a.data1.now a.data2.now a.palette a.pal.now) is a.out.now c.num_texels-n.ensures.0
 
 pub returns-in-4 : goal.returns-in-4
 returns-in-4 c =
     let a = c.args in
     let is : format a.params.0 ≡ 4 = omega (arith, c.format.ensures) in
-    rw (c.unwrap_or-off.ensures, c.is_color0_transparent-clear0.ensures) at c.decode_format4.ensures
+    rw (c.unwrap_or.ensures, c.is_color0_transparent-clear0.ensures) at c.decode_format4.ensures
     ∙ painted_by (sources a.params.0 a.data1.now a.data2.now a.palette a.pal.now) is a.out.now c.num_texels-n.ensures.0
 
 pub returns-in-6 : goal.returns-in-6
 returns-in-6 c =
     let a = c.args in
     let is : format a.params.0 ≡ 6 = omega (arith, c.format.ensures) in
-    rw c.unwrap_or-off.ensures at c.decode_format6.ensures
+    rw c.unwrap_or.ensures at c.decode_format6.ensures
     ∙ painted_by (sources a.params.0 a.data1.now a.data2.now a.palette a.pal.now) is a.out.now c.num_texels-n.ensures.0
 
 pub returns-in-5 : goal.returns-in-5
 returns-in-5 c =
     let a = c.args in
     let is : format a.params.0 ≡ 5 = omega (arith, c.format.ensures) in
-    rw (c.unwrap_or-off.ensures, c.width-width.ensures, c.height-height.ensures) at c.decode_format5.ensures
+    rw (c.unwrap_or.ensures, c.width-width.ensures, c.height-height.ensures) at c.decode_format5.ensures
     ∙ painted_by (sources a.params.0 a.data1.now a.data2.now a.palette a.pal.now) is a.out.now refl
 
 pub returns-in_default : goal.returns-in_default
