@@ -1,11 +1,12 @@
 -- The laws of lists of lines: by their count, as the code writes them, and by the records of a reading. Assumes nothing.
-use Prim.Native.Nat.{ℕ, zero, suc, ◌+◌, ◌<◌}
+use Prim.Native.Nat.{ℕ, zero, suc, ◌+◌, ◌≤◌, ◌<◌}
 use mathlib.Core.Path.{◌≡◌, refl}
 use mathlib.Core.List.{List, [], ◌∷◌, ◌++◌, map}
 use native.Mathlib.Nat.{zero-add}
 use native.Mathlib.Numerals.{add-one}
 use native.Mathlib.Omega.{arith}
 use lib.ListN.{length, get_or, length-append, length-map}
+use lib.Seq.{length-sets}
 use Rattle.scripts.specs.Script.{whole, run, outcome_of}
 use Rattle.reading.specs.Tex.{Contents, read_tex}
 use Rattle.nitro.specs.Calls.{entry, texture_entry, palette_entry, texture_record, palette_record, texture_of, palette_of, no_texture, no_palette, value_or}
@@ -13,25 +14,27 @@ use Rattle.errors.specs.declared.Kind.{Kind}
 use Rattle.errors.specs.declared.Kind.TheVariants.{Texture, Palette}
 use Rattle.lines.specs.Lines.{texture_line, palette_line}
 use Rattle.listing.specs.Listing.{headed, lists_of}
-use Rattle.text.specs.Put.{Room, Put}
 use Rattle.listing.specs.Lists.{entry_line, list_of}
 use Rattle.output.specs.Output.{pieces}
 use Rattle.output.proofs.Outputs.{pieces_part, pieces_listed}
-use Rattle.text.proofs.Puts.{put_length, put_then}
+use Rattle.text.proofs.Puts.{sets_both}
+
+-- no line, and one line more
+pub no_lines : (f : ℕ → List ℕ) → pieces f 0 ≡ []
+unfolding pieces
+no_lines f = refl
+
+pub one_more : (f : ℕ → List ℕ) (n : ℕ) → pieces f (n + 1) ≡ pieces f n ++ f n
+unfolding pieces
+one_more f n = rw add-one
 
 -- one line of those that have room
-pub room_line : (f : ℕ → List ℕ) (n count : ℕ) {entry out : List ℕ} {at end : ℕ} → n < count → Room (pieces f count) entry at
-    → Put (pieces f n) entry at out end → Room (f n) out end
+pub line_fits : (f : ℕ → List ℕ) (n count : ℕ) → n < count → length (pieces f n) + length (f n) ≤ length (pieces f count)
 unfolding pieces
-room_line f n count h r p = record {
-  fits = omega (arith, r.fits, p.behind, put_length p, pieces_part f (suc n) count h, length-append (pieces f n) (f n));
-}
+line_fits f n count h = omega (arith, pieces_part f (suc n) count h, length-append (pieces f n) (f n))
 
--- one line more
-pub put_line : (f : ℕ → List ℕ) (n : ℕ) {entry out later : List ℕ} {at end last : ℕ} → Put (pieces f n) entry at out end
-    → Put (f n) out end later last → Put (pieces f (n + 1)) entry at later last
-unfolding pieces
-put_line f n p q = rw add-one (put_then p q)
+-- for a loop that puts line behind line
+pub ruleset each_line = (no_lines, one_more, line_fits, sets_both, length-append, length-sets)
 
 -- the record beside a call's status is the list's entry
 entry_or : {A B : Type 0} (kind : Kind) (make : A → B) (blank : B) (xs : List A) (n : ℕ)

@@ -2,7 +2,7 @@
 
 #![tactic(auto)]
 
-ghost use Rattle.std.specs.Prelude.{◌≡◌, [], ◌∷◌, ◌++◌, ◌<◌, length, ltb};
+ghost use Rattle.std.specs.Prelude.{◌≡◌, [], ◌∷◌, ◌<◌};
 ghost use Rattle.io.specs.Counts.{IsPrefixLen};
 ghost use Rattle.util.specs.Outcome.{result as answered};
 ghost use Rattle.output.specs.Output.{Writes};
@@ -11,10 +11,10 @@ ghost use Rattle.scripts.specs.Script.{run};
 ghost use Rattle.reading.specs.Tex.{read_tex};
 ghost use Rattle.reading.specs.Layouts.{LaidOut};
 ghost use Rattle.layout.specs.Positions.{count_of};
-ghost use Rattle.text.specs.Text.{ascii, decimal, line};
+ghost use Rattle.text.specs.Text.{decimal, line};
 ghost use Rattle.text.specs.Put.{Room, Put};
 ghost use Rattle.listing.specs.Listing as Listing;
-ghost use Rattle.listing.specs.Lists.{list_word, entry_line, list_of};
+ghost use Rattle.listing.specs.Lists as Lists;
 
 use errors::{Kind, Refusal};
 use layout::{Layout, count_of};
@@ -32,8 +32,8 @@ pub const MAX_LISTING: usize = 22211;
 
 // The line of texture or palette n, by the block's layout.
 fn put_entry(out: &mut [u8], at: usize, block: &[u8], kind: Kind, layout: Layout, n: usize) -> usize
-    requires { LaidOut block.now layout × ((n < count_of kind layout) × Room (entry_line kind (run read_tex block.now) n) out.old at) }
-    ensures { Put (entry_line kind (run read_tex block.now) n) out.old at out.new result }
+    requires { LaidOut block.now layout × ((n < count_of kind layout) × Room (Lists.entry_line kind (run read_tex block.now) n) out.old at) }
+    ensures { Put (Lists.entry_line kind (run read_tex block.now) n) out.old at out.new result }
 {
     match kind {
         Kind::Texture => put_texture(out, at, n, texture_by(block, layout, n)),
@@ -41,95 +41,89 @@ fn put_entry(out: &mut [u8], at: usize, block: &[u8], kind: Kind, layout: Layout
     }
 }
 
-// A list's word, and a space.
-fn put_list_word(out: &mut [u8], at: usize, kind: Kind) -> usize
-    requires { Room (list_word kind ++ ascii " ") out.old at }
-    ensures { Put (list_word kind ++ ascii " ") out.old at out.new result }
+// The word of a list.
+#[tactic(auto, unfolding(text::specs::Text::ascii))]
+fn list_word(kind: Kind) -> &'static [u8]
+    ensures { result.now ≡ Lists.list_word kind }
 {
     match kind {
-        Kind::Texture => put_field(out, at, b"textures", b" "),
-        Kind::Palette => put_field(out, at, b"palettes", b" "),
+        Kind::Texture => b"textures",
+        Kind::Palette => b"palettes",
     }
 }
 
 // The line that a list opens with.
+#[tactic(auto, using(text::proofs::Puts::puts), unfolding(text::specs::Text::line, text::specs::Text::ascii))]
 fn put_heading(out: &mut [u8], at: usize, kind: Kind, count: usize) -> usize
-    requires { Room (line (list_word kind ∷ decimal count ∷ [])) out.old at }
-    ensures { Put (line (list_word kind ∷ decimal count ∷ [])) out.old at out.new result }
+    requires { Room (line (Lists.list_word kind ∷ decimal count ∷ [])) out.old at }
+    ensures { Put (line (Lists.list_word kind ∷ decimal count ∷ [])) out.old at out.new result }
 {
-    let at = put_list_word(out, at, kind);
+    let at = put_field(out, at, list_word(kind), b" ");
     put_number(out, at, count, b"\n")
 }
 
 // The list of the block's textures or palettes. All lines are of one reading.
+#[tactic(auto, using(crate::proofs::Lists::each_line), unfolding(crate::specs::Lists::list_of))]
 fn put_list(out: &mut [u8], at: usize, block: &[u8], kind: Kind, layout: Layout) -> usize
-    requires { LaidOut block.now layout × Room (list_of kind (run read_tex block.now) (count_of kind layout)) out.old at }
-    ensures { Put (list_of kind (run read_tex block.now) (count_of kind layout)) out.old at out.new result }
+    requires { LaidOut block.now layout × Room (Lists.list_of kind (run read_tex block.now) (count_of kind layout)) out.old at }
+    ensures { Put (Lists.list_of kind (run read_tex block.now) (count_of kind layout)) out.old at out.new result }
 {
     let count = count_of(kind, layout);
     let mut at = put_heading(out, at, kind, count);
-    let mut n = 0;
-    while n < count {
+    for n in 0..count {
         at = put_entry(out, at, block, kind, layout, n);
-        n += 1;
     }
     at
 }
 
-// Whether the input is too long to be read.
-fn is_too_long(input: &[u8]) -> bool
-    ensures { result ≡ ltb 65536 (length input.now) }
+// The layout of an input that is not too long to be read.
+#[tactic(auto, unfolding(crate::specs::Lists::read_outcome))]
+fn read(input: &[u8]) -> Result<Layout, Refusal>
+    ensures { result_outcome result ≡ Lists.read_outcome input.now }
 {
-    MAX_INPUT < input.len()
+    if MAX_INPUT < input.len() {
+        return Err(Refusal::LongInput);
+    }
+    lay_out(input)
 }
 
-// The whole listing.
-fn put_listing(out: &mut [u8], at: usize, input: &[u8]) -> usize
-    requires { Room (Listing.listing_text input.now) out.old at }
-    ensures { Put (Listing.listing_text input.now) out.old at out.new result }
+// The whole listing, at the start of the output.
+#[tactic(auto, using(text::proofs::Puts::puts, crate::proofs::Listings::listings))]
+fn put_listing(out: &mut [u8], input: &[u8]) -> usize
+    requires { Room (Listing.listing_text input.now) out.old 0 }
+    ensures { Put (Listing.listing_text input.now) out.old 0 out.new result }
 {
-    if is_too_long(input) {
-        return put_refused(out, at, 13, 0);
-    }
-    match lay_out(input) {
+    match read(input) {
         Ok(layout) => {
-            let at = put_list(out, at, input, Kind::Texture, layout);
+            let at = put_list(out, 0, input, Kind::Texture, layout);
             put_list(out, at, input, Kind::Palette, layout)
         }
-        Err(refusal) => put_refused(out, at, refusal.number(), refusal.returned()),
+        Err(refusal) => put_refused(out, 0, refusal.number(), refusal.returned()),
     }
 }
 
-// Room for any listing.
-fn buffer() -> [u8; MAX_LISTING]
-    ensures { 22211 ≡ length result }
-{
-    [0; MAX_LISTING]
-}
-
-// Writes the listing of a block to the output, and answers with its length. A block that is refused is listed as one line. Where the listing
-// is longer than the output it is not written.
-pub fn list(input: &[u8], out: &mut [u8]) -> Result<usize, Refusal>
-    ensures { Writes (answered (Listing.listing_text input.now)) out.old (result_outcome result) out.new }
-{
-    if MAX_LISTING <= out.len() {
-        return Ok(put_listing(out, 0, input));
-    }
-    let mut text = buffer();
-    let len = put_listing(&mut text, 0, input);
-    if out.len() < len {
-        return Err(Refusal::Output);
-    }
-    Ok(put(out, 0, &text[..len]))
-}
-
-// The same, to an output that has room for every listing: the answer is never a refusal.
+// Writes the listing of a block to an output that has room for every listing, and returns its length. A block that is refused is listed as one
+// line.
+#[tactic(auto, using(text::proofs::Puts::whole, crate::proofs::Bounds::listing_fits))]
 pub fn list_whole(input: &[u8], out: &mut [u8; MAX_LISTING]) -> usize
     ensures value { Writes (answered (Listing.listing_text input.now)) out.old (answered result) out.new }
     ensures in_bounds { IsPrefixLen result out.new }
 {
-    match list(input, out) {
-        Ok(len) => len,
-        Err(_) => 0,
+    put_listing(out, input)
+}
+
+// The same, to any output, which is not written where the listing is longer.
+#[tactic(auto, using(text::proofs::Puts::whole, crate::proofs::Bounds::listing_fits))]
+pub fn list(input: &[u8], out: &mut [u8]) -> Result<usize, Refusal>
+    ensures { Writes (answered (Listing.listing_text input.now)) out.old (result_outcome result) out.new }
+{
+    if MAX_LISTING <= out.len() {
+        return Ok(put_listing(out, input));
     }
+    let mut text = [0; MAX_LISTING];
+    let len = list_whole(input, &mut text);
+    if out.len() < len {
+        return Err(Refusal::Output);
+    }
+    Ok(put(out, 0, &text[..len]))
 }

@@ -33,6 +33,19 @@ pub output_there : (text entry : List ℕ) → length text ≤ length entry → 
 unfolding write_output
 output_there text entry h = rw (le-leb _ _ h, sets_start text entry h)
 
+-- so the text is the first of what is left
+pub text_there : (text entry : List ℕ) → length text ≤ length entry → take (length text) (sets entry 0 text) ≡ text
+text_there text entry h = rw (sets_start text entry h) (take-append_seam text _)
+
+-- and where there is none
+pub outcome_short : (text entry : List ℕ) → length entry < length text → write_outcome (result text) entry ≡ refusal 11 0
+unfolding write_outcome
+outcome_short text entry h = rw (lt-leb _ _ h)
+
+pub output_short : (text entry : List ℕ) → length entry < length text → write_output (result text) entry ≡ entry
+unfolding write_output
+output_short text entry h = rw (lt-leb _ _ h)
+
 -- an output, `entry` at first and `now` after the text was written to its first `end` bytes
 pub record Wrote (text entry : List ℕ) (end : ℕ) (now : List ℕ) : Type 0 where
   pub fits : length text ≤ length entry

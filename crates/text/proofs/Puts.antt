@@ -2,7 +2,7 @@
 use Prim.Native.Nat.{ℕ, ◌+◌, ◌-◌}
 use mathlib.Core.Path.{◌≡◌, refl, ap, ◌∙◌}
 use mathlib.Core.List.{List, [], ◌++◌, append-nil, append_assoc}
-use native.Mathlib.Nat.{add-zero, zero-add}
+use native.Mathlib.Nat.{zero-add}
 use native.Mathlib.Omega.{arith}
 use lib.ListN.{length, take, drop, length-append, length-drop, length-take}
 use lib.Seq.{take_all, drop-drop, drop-length, sets, sets-eq, length-sets}
@@ -13,13 +13,9 @@ use Rattle.errors.specs.Refusal.{result_outcome}
 use Rattle.errors.specs.declared.Refusal.{Refusal}
 use Rattle.errors.proofs.Refusals.{refusal_not}
 use Rattle.output.specs.Output.{Writes}
-use Rattle.output.proofs.Outputs.{sets_append, outcome_there, output_there, Wrote, wrote_text, writes_fits, writes_whole}
+use Rattle.output.proofs.Outputs.{sets_append, outcome_there, output_there, text_there, outcome_short, output_short, Wrote, wrote_text, writes_fits, writes_whole}
 use Rattle.text.specs.Text.{decimal}
 use Rattle.text.specs.Put.{Room, Put}
-
--- nothing is put
-pub put_none : (entry : List ℕ) (at : ℕ) → Put [] entry at entry at
-put_none entry at = record { output = refl; behind = rw add-zero }
 
 -- a text that is copied over the output's part from the place on
 pub put_copy : (text entry : List ℕ) (at : ℕ) {part : List ℕ} → Room text entry at → part ≡ text
@@ -77,7 +73,7 @@ part_wrote text entry at r w =
     record { outcome = told; output = rw (wrote.holds, none, append-nil, drop-drop, sets-eq text entry at r.fits, append_assoc) }
 
 -- for functions that write a text at the start of an output
-pub ruleset whole = (outcome_there, output_there, length-sets, length-take)
+pub ruleset whole = (outcome_there, output_there, text_there, outcome_short, output_short, length-sets, length-take)
 
 -- so a call that may refuse does not, and the text is there as if put
 module _ {text entry : List ℕ} {at : ℕ} (answer : Result ℕ Refusal) {part : List ℕ} (r : Room text entry at)

@@ -1,9 +1,4 @@
 -- `listing::put_list` meets its contract: behind the heading the loop puts line after line. Assumes nothing.
--- n lines are there, behind where the loop began
--- the heading
--- the lines have room behind it
--- and after the loop all of them are there
-use Prim.Native.Nat.{◌-◌, ◌≤◌}
 use Rattle.scripts.specs.Script.{run}
 use Rattle.output.specs.Output.{pieces}
 use Rattle.reading.specs.Tex.{read_tex}
@@ -12,8 +7,4 @@ use Rattle.listing.specs.Lists.{entry_line}
 use Rattle.listing.proofs.put_list.Given as goal
 
 abbrev pub invariant-loop-n : goal.invariant-loop-n
-invariant-loop-n l =
-    (l.n ≤ l.count) × Put (pieces (entry_line l.kind (run read_tex l.block)) l.n) l.initial.out l.initial.at l.out l.at
-
-abbrev pub decreases-loop-n : goal.decreases-loop-n
-decreases-loop-n l = l.count - l.n
+invariant-loop-n l = Put (pieces (entry_line l.kind (run read_tex l.block)) l.n) l.initial.out l.initial.at l.out l.at
