@@ -3,7 +3,6 @@ use Prim.Native.Nat.{ℕ, ◌≤◌, ◌<◌}
 use mathlib.Core.Path.{◌≡◌, refl}
 use mathlib.Core.Bool.{Bool, true, false}
 use mathlib.Core.List.{List}
-use native.Mathlib.Omega.{arith}
 use lib.Dec.{leb}
 use lib.ListN.{length}
 use borrow.Author.Tests.{le-leb, lt-leb, leb-true}
@@ -28,9 +27,9 @@ module _ {A : Type 0} (output : List ℕ) where
   -- a record that is not declined has room for its name
   pub named_room : (answer : Outcome A) {a : A} → result a ≡ named output answer → 16 ≤ length output
   unfolding named ◌>>=◌
-  named_room (refusal k v) e = let z : ◌≡◌ {A = ℕ} 0 1 = cc in absurd (omega arith)
+  named_room (refusal k v) e = cc
   named_room (result b) {a} e = go (leb 16 (length output)) refl
     where
       go : (t : Bool) → leb 16 (length output) ≡ t → 16 ≤ length output
       go true q = leb-true 16 (length output) q
-      go false q = let z : ◌≡◌ {A = ℕ} 0 1 = cc (rw q at e) in absurd (omega arith)
+      go false q = cc (rw q at e)

@@ -6,7 +6,7 @@ ghost use Rattle.told.specs.Told as Told;
 use errors::Refusal;
 use name::Name;
 use nitro::tex;
-use told::{alpha_number, code_of, needed_of, tell_counts, wrap_number};
+use told::{alpha_number, tell, tell_counts, wrap_number};
 
 // Reads the block: how many textures and palettes it has.
 #[unsafe(no_mangle)]
@@ -73,8 +73,7 @@ pub extern "C" fn rasclanya_texture(
         *wrap_t = wrap_number(texture.wrap_t);
         *alpha = alpha_number(texture.alpha);
     }
-    *needed = needed_of(record);
-    code_of(record)
+    tell(record, needed)
 }
 
 // The record of palette n. Its name goes to the first 16 bytes of an output.
@@ -97,6 +96,5 @@ pub extern "C" fn rasclanya_palette(
         put_name(name, palette.name);
         *off = palette.off;
     }
-    *needed = needed_of(record);
-    code_of(record)
+    tell(record, needed)
 }

@@ -3,7 +3,6 @@ use Rattle.std.specs.Prelude.{None}
 use Prim.Native.Nat.{ℕ}
 use mathlib.Core.Path.{◌≡◌, refl, sym, subst, ◌∙◌}
 use mathlib.Core.List.{List}
-use native.Mathlib.Omega.{arith}
 use Rattle.util.specs.Outcome.{Outcome, result, refusal, ◌>>=◌}
 use Rattle.errors.specs.Refusal.{refusal_outcome}
 use Rattle.errors.specs.declared.Refusal.{Refusal}
@@ -56,7 +55,7 @@ module _ {A : Type 0} (at : A → Place) (b part : List ℕ) {place : Place} whe
       → ((a : A) → result a ≡ o → (f a ≡ result (place_of (at a).pos part)) × (part_at b (at a) ≡ part))
       → (o >>= f) ≡ result place → Inside b part place
   unfolding ◌>>=◌
-  told_inside (refusal k v) f known e = let z : ◌≡◌ {A = ℕ} 0 1 = cc in absurd (omega arith)
+  told_inside (refusal k v) f known e = cc
   told_inside (result a) f known e =
       let (told, same) = known a refl in
       let is : place_of (at a).pos part ≡ place = cc (sym told ∙ e) in

@@ -22,19 +22,16 @@ use Rattle.stream.proofs.Counts.{bound}
 -- whether an answer is short
 module _ {A : Type 0} where
   pub enough_not : {o : Outcome A} → None ≡ shortness o → NotShort o
-  enough_not {o = result a} e w q = let z : ◌≡◌ {A = ℕ} 0 1 = cc in omega arith
-  enough_not {o = refusal k v} e w q =
-      let one : k ≡ 1 = cc in
-      let z : ◌≡◌ {A = ℕ} 0 1 = cc (rw one at e) in
-      omega arith
+  enough_not {o = result a} e w q = cc
+  enough_not {o = refusal k v} e w q = let one : k ≡ 1 = cc in cc (rw one at e)
 
   pub needs_short : {o : Outcome A} {w : ℕ} → Some w ≡ shortness o → o ≡ refusal 1 w
-  needs_short {o = result a} e = let z : ◌≡◌ {A = ℕ} 0 1 = cc in absurd (omega arith)
+  needs_short {o = result a} e = cc
   needs_short {o = refusal k v} {w} e = go (eqb k 1) refl
     where
       go : (t : Bool) → eqb k 1 ≡ t → ◌≡◌ {A = Outcome A} (refusal k v) (refusal 1 w)
       go true q = let one : k ≡ 1 = eqb-true k 1 q in let same : w ≡ v = cc (rw q at e) in rw (one, same)
-      go false q = let z : ◌≡◌ {A = ℕ} 0 1 = cc (rw q at e) in absurd (omega arith)
+      go false q = cc (rw q at e)
 
 -- what the loop keeps: the answers that were short, and the lengths that are still to be counted
 pub record Fetching (b : List ℕ) (given count : ℕ) : Type 0 where

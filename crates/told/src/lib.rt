@@ -47,11 +47,13 @@ pub fn code_of<T: Copy>(answer: Result<T, Refusal>) -> u32
     answer.err().map_or(0, |refusal| refusal.number() as u32)
 }
 
-// The length that a short block needs, and 0 where the block is not short.
-pub fn needed_of<T: Copy>(answer: Result<T, Refusal>) -> usize
-    ensures { result ≡ Told.needed_of (result_outcome answer) }
+// What is told of every answer: its number, and the length that a short block needs, which is 0 where the block is not short.
+pub fn tell<T: Copy>(answer: Result<T, Refusal>, needed: &mut usize) -> u32
+    ensures value { result ≡ Told.code_of (result_outcome answer) }
+    ensures needed_after { needed.new ≡ Told.needed_of (result_outcome answer) }
 {
-    answer.err().map_or(0, Refusal::returned)
+    *needed = answer.err().map_or(0, Refusal::returned);
+    code_of(answer)
 }
 
 // An answer with a length, of a call that is never short.
@@ -71,8 +73,8 @@ pub fn tell_count(answer: Result<usize, Refusal>, len: &mut usize, needed: &mut 
     ensures len_after { len.new ≡ Told.left len.old Told.itself (result_outcome answer) }
     ensures needed_after { needed.new ≡ Told.needed_of (result_outcome answer) }
 {
-    *needed = needed_of(answer);
-    tell_len(answer, len)
+    tell_len(answer, len);
+    tell(answer, needed)
 }
 
 // A reading's answer.
@@ -91,8 +93,7 @@ pub fn tell_counts(
         *textures = counts.textures;
         *palettes = counts.palettes;
     }
-    *needed = needed_of(answer);
-    code_of(answer)
+    tell(answer, needed)
 }
 
 // The place of a part that begins at pos: one without bytes is told at 0.
@@ -122,6 +123,5 @@ pub fn tell_part(
         *pos = place.pos;
         *len = place.len;
     }
-    *needed = needed_of(answer);
-    code_of(answer)
+    tell(answer, needed)
 }
