@@ -1,5 +1,6 @@
 -- What the test programs' helpers return. Assumes nothing.
-use Rattle.std.specs.Prelude.{ℕ, ◌+◌, ◌*◌, ◌%◌, cond, List, [], ◌∷◌, length, leb}
+use Rattle.std.specs.Prelude.{ℕ, ◌+◌, ◌*◌, ◌%◌, cond, List, length, leb}
+use Rattle.std.specs.List.{fold}
 use Rattle.util.specs.Number.{number_at}
 use Rattle.util.specs.Take.{taken_part}
 
@@ -20,5 +21,4 @@ abbrev pub added : (sum x : ℕ) → ℕ
 added sum x = (31 * (sum % 65521) + x % 65521) % 65521
 
 abbrev pub added_all : (sum : ℕ) → List ℕ → ℕ
-added_all sum [] = sum
-added_all sum (x ∷ xs) = added_all (added sum x) xs
+added_all = fold added

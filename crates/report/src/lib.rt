@@ -28,6 +28,13 @@ pub fn number(n: u64) {
     decimal(n);
 }
 
+// Prints each number behind a space.
+pub fn numbers(all: &[usize]) {
+    for n in all {
+        number(*n as u64);
+    }
+}
+
 // Prints that a call was declined: the refusal's number and what is returned with it.
 pub fn refused(refusal: Refusal) {
     text(b" | no ");
@@ -35,15 +42,22 @@ pub fn refused(refusal: Refusal) {
     number(refusal.returned() as u64);
 }
 
-// Prints an answer that is a number or a refusal.
-pub fn counted(answer: Result<usize, Refusal>) {
+// Prints an answer: what it holds, by `value`, or that the call was declined.
+pub fn answered<T, F: FnOnce(T)>(answer: Result<T, Refusal>, value: F)
+    requires { F.IsAlwaysCallable value }
+{
     match answer {
-        Ok(n) => {
+        Ok(holds) => {
             text(b" | ok");
-            number(n as u64);
+            value(holds);
         }
         Err(refusal) => refused(refusal),
     }
+}
+
+// Prints an answer that is a number or a refusal.
+pub fn counted(answer: Result<usize, Refusal>) {
+    answered(answer, |n| number(n as u64));
 }
 
 // Prints a space, and the word for a wrap mode.
