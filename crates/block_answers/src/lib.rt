@@ -2,35 +2,30 @@
 
 #![tactic(auto)]
 
-use answer_bytes::{ROOM, UNWRITTEN, class, put, put_u8, same};
+use answer_bytes::Answer;
 use answer_palettes::{put_pal_block, put_palettes};
 use answer_pictures::put_pictures;
 use answer_textures::put_textures;
-use cursor::part_at;
 use nitro::tex;
+use nitro::tex::Counts;
 
-// All that is answered of a block that is read.
-fn put_read(out: &mut [u8], block: &[u8], textures: usize, palettes: usize) -> usize {
-    let at = put(out, 0, 0);
-    let at = put_u8(out, at, textures);
-    let at = put_u8(out, at, palettes);
-    let at = put_textures(out, at, block, textures);
-    let at = put_palettes(out, at, block, palettes);
-    let at = put_pal_block(out, at, block, palettes);
-    put_pictures(out, at, block, textures, palettes)
-}
-
-// The answer to a block. Returns its length.
-fn put_block(out: &mut [u8], block: &[u8]) -> usize {
-    match tex::read_tex(block) {
-        Ok(counts) => put_read(out, block, counts.textures, counts.palettes),
-        Err(refusal) => put(out, 0, class(refusal)),
-    }
+// All that is answered of a block that is read, behind class 0.
+fn put_read(answer: &mut Answer, block: &[u8], counts: Counts) {
+    answer.put_u8(0);
+    answer.put_u8(counts.textures);
+    answer.put_u8(counts.palettes);
+    put_textures(answer, block, counts.textures);
+    put_palettes(answer, block, counts.palettes);
+    put_pal_block(answer, block, counts.palettes);
+    put_pictures(answer, block, counts.textures, counts.palettes);
 }
 
 // Whether the block's answer is the stored one.
 pub fn block_agrees(block: &[u8], stored: &[u8]) -> bool {
-    let mut out = [UNWRITTEN; ROOM];
-    let len = put_block(&mut out, block);
-    same(part_at(&out, 0, len), stored)
+    let mut answer = Answer::new();
+    match tex::read_tex(block) {
+        Ok(counts) => put_read(&mut answer, block, counts),
+        Err(refusal) => answer.put_class(refusal),
+    }
+    answer.agrees(stored)
 }

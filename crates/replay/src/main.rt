@@ -42,13 +42,8 @@
 
 ghost use Rattle.std.specs.Prelude.{◌≤◌};
 
-use answer_bytes::MAX_ANSWER;
-use replay_cases::MAX_PART;
 use replay_runs::run_case;
 use report::{decimal, text};
-
-// The limit of a direct decoding's three parts together.
-const MAX_PARTS: usize = 3 * MAX_PART;
 
 // 1 where the case agrees. Else 0, and a line that says so.
 fn counted(agrees: bool, case: u64) -> u64
@@ -80,28 +75,18 @@ fn totals(agreeing: u64, cases: u64) {
 
 // Runs case after case. A proved loop has to end, and nothing says that the input does, so there is a largest number of cases, which no list
 // reaches.
-fn replay(parts: &mut [u8], stored: &mut [u8]) {
-    let mut cases: u64 = 0;
-    let mut agreeing: u64 = 0;
-    while cases < u64::MAX {
-        match run_case(parts, stored) {
-            Ok(Some(agrees)) => agreeing += counted(agrees, cases),
-            Err(_) => {
-                broken(cases);
-                return;
-            }
-            Ok(None) => {
-                totals(agreeing, cases);
-                return;
-            }
+fn replay() {
+    let mut agreeing = 0;
+    for case in 0..u64::MAX {
+        match run_case() {
+            Ok(Some(agrees)) => agreeing += counted(agrees, case),
+            Ok(None) => return totals(agreeing, case),
+            Err(_) => return broken(case),
         }
-        cases += 1;
     }
 }
 
 // Runs the list that is the standard input.
 fn main() {
-    let mut parts = [0; MAX_PARTS];
-    let mut stored = [0; MAX_ANSWER];
-    replay(&mut parts, &mut stored);
+    replay();
 }

@@ -2,8 +2,6 @@
 
 #![tactic(auto)]
 
-use util::cur::{Needed, peek};
-
 // The file descriptor of standard input.
 const STDIN_FILENO: i32 = 0;
 
@@ -14,40 +12,27 @@ pub const MAX_PART: usize = 4096;
 #[derive(Clone, Copy)]
 pub struct Broken;
 
-// Reads the list's next len bytes to the start of the buffer. The list is broken where there are fewer, or the buffer is shorter.
-pub fn next_bytes(buffer: &mut [u8], len: usize) -> Result<(), Broken> {
-    if buffer.len() < len {
-        return Err(Broken);
-    }
-    if io::read_full(STDIN_FILENO, &mut buffer[..len]) != len {
-        return Err(Broken);
-    }
-    Ok(())
-}
-
-// The list's next byte.
-pub fn next_u8() -> Result<u32, Needed> {
-    let mut bytes = [0; 1];
-    let n = io::read_full(STDIN_FILENO, &mut bytes);
-    peek::<u8>(&bytes[..n], 0)
-}
-
-// The list's next number of 4 bytes.
-fn next_u32() -> Result<u32, Needed> {
-    let mut bytes = [0; 4];
-    let n = io::read_full(STDIN_FILENO, &mut bytes);
-    peek::<u32>(&bytes[..n], 0)
-}
-
-// Reads a length, and as many bytes.
-pub fn next_part(buffer: &mut [u8], most: usize) -> Result<usize, Broken> {
-    let Ok(len) = next_u32() else {
+// Reads the list's next len bytes to the start of the buffer, and returns them. The list is broken where there are fewer, or the buffer is
+// shorter.
+pub fn next_bytes<'a>(buffer: &'a mut [u8], len: usize) -> Result<&'a [u8], Broken> {
+    let Some(bytes) = buffer.get_mut(..len) else {
         return Err(Broken);
     };
-    let len = len as usize;
-    if most < len {
+    if io::read_full(STDIN_FILENO, bytes) != len {
         return Err(Broken);
     }
-    next_bytes(buffer, len)?;
-    Ok(len)
+    Ok(bytes)
+}
+
+// The list's next N bytes.
+pub fn next_array<const N: usize>() -> Result<[u8; N], Broken> {
+    let mut bytes = [0; N];
+    next_bytes(&mut bytes, N)?;
+    Ok(bytes)
+}
+
+// Reads a length, and as many bytes to the start of the buffer.
+pub fn next_part<'a>(buffer: &'a mut [u8]) -> Result<&'a [u8], Broken> {
+    let len = u32::from_le_bytes(next_array()?);
+    next_bytes(buffer, len as usize)
 }
