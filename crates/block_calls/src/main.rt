@@ -3,65 +3,48 @@
 
 #![tactic(auto)]
 
-use block_report::{palettes, part, refused, textures};
-use cursor::part_at;
+use block_report::{answered, palettes, part, textures};
 use name_report::texts;
 use nitro::tex;
-use report::{STDIN_FILENO, number, text};
+use report::{STDIN_FILENO, number, numbers, text};
 use rows_report::all_rows;
-use util::cur::{peek, take_at};
 
 // Prints every answer for a block.
 fn show(block: &[u8]) {
     text(b"block");
     number(block.len() as u64);
     text(b"\nreading");
-    match tex::read_tex(block) {
-        Ok(counts) => {
-            number(counts.textures as u64);
-            number(counts.palettes as u64);
-        }
-        Err(refusal) => refused(refusal),
-    }
+    answered(tex::read_tex(block), |counts| {
+        numbers(&[counts.textures, counts.palettes])
+    });
     text(b"\npal_block");
     part(tex::pal_block(block));
     text(b"\n");
-    textures(block, 0);
-    textures(block, 1);
-    textures(block, 2);
-    textures(block, 18446744073709551615);
-    palettes(block, 0);
-    palettes(block, 1);
-    palettes(block, 18446744073709551615);
+    for n in [0, 1, 2, usize::MAX] {
+        textures(block, n);
+    }
+    for n in [0, 1, usize::MAX] {
+        palettes(block, n);
+    }
     all_rows(block);
     texts(tex::texture(block, 0).unwrap_or(tex::no_texture()).name);
 }
 
-// Shows the block whose length stands at pos, and answers where the next one begins, or the input's length where there is none.
-fn show_at(input: &[u8], pos: usize) -> usize {
-    let len = match peek::<u32>(input, pos) {
-        Ok(len) => len as usize,
-        Err(_) => return input.len(),
-    };
-    match take_at(input, pos + 4, len) {
-        Ok(end) => {
-            show(part_at(input, pos + 4, len));
-            end
-        }
-        Err(_) => input.len(),
-    }
+// The input's first block, whose length stands before it, and what is behind it. None where there is no whole block.
+fn first_block(input: &[u8]) -> Option<(&[u8], &[u8])> {
+    let (len, behind) = input.split_first_chunk::<4>()?;
+    behind.split_at_checked(u32::from_le_bytes(*len) as usize)
 }
 
 // Shows each block of the input. There are fewer than 1,000.
 fn show_all(input: &[u8]) {
-    let mut pos = 0;
-    let mut turns: usize = 1000;
-    while 0 < turns {
-        if pos == input.len() {
+    let mut rest = input;
+    for _ in 0..1000 {
+        let Some((block, behind)) = first_block(rest) else {
             return;
-        }
-        pos = show_at(input, pos);
-        turns -= 1;
+        };
+        show(block);
+        rest = behind;
     }
 }
 

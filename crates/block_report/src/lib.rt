@@ -1,73 +1,57 @@
-// How the program `block_calls` prints refusals and parts, and what the calls for one texture and one palette answer.
+// How the program `block_calls` prints answers and parts, and what the calls for one texture and one palette answer.
 
 #![tactic(auto)]
 
 use errors::Refusal;
-use name::Name;
 use nitro::tex;
 use nitro::tex::TextureRecord;
 use report::{STDOUT_FILENO, alpha, number, text, wrap};
 
 // Prints a refusal's number, and for a short block what is returned beside it.
-pub fn refused(refusal: Refusal) {
-    let n = refusal.number();
+fn refused(refusal: Refusal) {
     text(b" refused");
-    number(n as u64);
-    if n == 1 {
-        number(refusal.returned() as u64);
+    number(refusal.number() as u64);
+    if let Refusal::Short(needed) = refusal {
+        number(needed as u64);
     }
 }
 
-// Prints an answer that holds nothing beside a refusal.
-fn status<T: Copy>(answer: Result<T, Refusal>) {
+// Prints an answer: what it holds, by `value`, or its refusal.
+pub fn answered<T, F: FnOnce(T)>(answer: Result<T, Refusal>, value: F)
+    requires { F.IsAlwaysCallable value }
+{
     match answer {
-        Ok(_) => text(b" done"),
+        Ok(holds) => value(holds),
         Err(refusal) => refused(refusal),
     }
 }
 
-// Prints a byte in two hex digits.
-fn hex(b: u8) {
-    io::print_hex(STDOUT_FILENO, b as u64, 2);
+// Prints an answer that is a number or a refusal.
+pub fn counted(answer: Result<usize, Refusal>) {
+    answered(answer, |n| number(n as u64));
+}
+
+// Prints an answer that holds nothing beside a refusal.
+fn status<T: Copy>(answer: Result<T, Refusal>) {
+    answered(answer, |_| text(b" done"));
 }
 
 // Prints a part's length, and its bytes in hex.
 pub fn part(bytes: &[u8]) {
     number(bytes.len() as u64);
     text(b" ");
-    let mut i = 0;
-    while i < bytes.len() {
-        hex(bytes[i]);
-        i += 1;
+    for b in bytes {
+        io::print_hex(STDOUT_FILENO, u64::from(*b), 2);
     }
-}
-
-// Prints an answer that is a number or a refusal.
-pub fn counted(answer: Result<usize, Refusal>) {
-    match answer {
-        Ok(n) => number(n as u64),
-        Err(refusal) => refused(refusal),
-    }
-}
-
-// Prints a record's name, as it stands in the block.
-fn raw(name: Name) {
-    let bytes = name.0;
-    part(&bytes);
 }
 
 // Prints a texture's record.
 fn texture(record: TextureRecord) {
-    let name = record.name;
-    let params = record.params;
-    let wrap_s = record.wrap_s;
-    let wrap_t = record.wrap_t;
-    let kind = record.alpha;
-    number(params.0 as u64);
-    wrap(wrap_s);
-    wrap(wrap_t);
-    alpha(kind);
-    raw(name);
+    number(u64::from(record.params.0));
+    wrap(record.wrap_s);
+    wrap(record.wrap_t);
+    alpha(record.alpha);
+    part(&record.name.0);
 }
 
 // Prints the answers for the texture with this number: its record, and its first and second data.
@@ -91,7 +75,7 @@ pub fn palettes(block: &[u8], n: usize) {
     let answer = tex::palette(block, n);
     status(answer);
     let record = answer.unwrap_or(tex::no_palette());
-    number(record.off as u64);
-    raw(record.name);
+    number(u64::from(record.off));
+    part(&record.name.0);
     text(b"\n");
 }

@@ -7,26 +7,36 @@ use errors::Refusal;
 use name::Name;
 use report::text;
 
-// Prints what a name call answered, and all of its output.
-fn written(answer: Result<usize, Refusal>, out: &[u8]) {
-    counted(answer);
+// Prints what a name call answers to an output of N bytes that are filled with `fill`, and all of the output.
+fn written<const N: usize, F: FnOnce(&mut [u8]) -> Result<usize, Refusal>>(
+    title: &[u8],
+    fill: u8,
+    call: F,
+)
+    requires { F.IsAlwaysCallable call }
+{
+    let mut out = [fill; N];
+    text(title);
+    counted(call(&mut out));
     text(b" ");
-    text(out);
+    text(&out);
+    text(b"\n");
+}
+
+// A name's safe text in an output of N bytes.
+fn safe<const N: usize>(name: Name) {
+    written::<N, _>(b"safe", b'.', |out| name.print_safe(out));
+}
+
+// A name's Display text in an output of N bytes.
+fn display<const N: usize>(name: Name) {
+    written::<N, _>(b"display", b'-', |out| name.display(out));
 }
 
 // Both texts of a name, in an output that holds any text and in one of three bytes.
 pub fn texts(name: Name) {
-    let mut safe = [b'.'; 32];
-    let mut display = [b'-'; 32];
-    let mut short_safe = [b'.'; 3];
-    let mut short_display = [b'-'; 3];
-    text(b"safe");
-    written(name.print_safe(&mut safe), &safe);
-    text(b"\nsafe");
-    written(name.print_safe(&mut short_safe), &short_safe);
-    text(b"\ndisplay");
-    written(name.display(&mut display), &display);
-    text(b"\ndisplay");
-    written(name.display(&mut short_display), &short_display);
-    text(b"\n");
+    safe::<32>(name);
+    safe::<3>(name);
+    display::<32>(name);
+    display::<3>(name);
 }
