@@ -2,11 +2,11 @@
 
 #![tactic(auto)]
 
-use cases::add_all;
+use cases::{add_all, filled};
 use report::{counted, number, text};
 use stream::fetch_picture::fetch_picture;
 use stream::fetch_tex::fetch_tex;
-use stream_report::Request;
+use stream_report::{ROOM, Request};
 use stream_sums::reading;
 
 // Prints how many answers were short.
@@ -24,8 +24,7 @@ fn fetched_tex(block: &[u8]) {
 
 // Fetches a block up to a picture, and prints the answer and the sum of the whole output.
 fn fetched_picture(block: &[u8], request: Request, out: &mut [u8]) {
-    let choice = request.choice;
-    let fetched = fetch_picture(block, request.texture, choice, out);
+    let fetched = fetch_picture(block, request.texture, request.choice, out);
     counted(fetched.answer);
     short_answers(fetched.short_answers);
     text(b" |");
@@ -33,11 +32,10 @@ fn fetched_picture(block: &[u8], request: Request, out: &mut [u8]) {
     text(b"\n");
 }
 
-// A line of fetching.
-pub fn fetching(block: &[u8], request: Request, out: &mut [u8]) {
-    let len = request.room;
+// A line of fetching. The output is filled.
+pub fn fetching(block: &[u8], request: Request) {
     fetched_tex(block);
-    if len <= out.len() {
-        fetched_picture(block, request, &mut out[..len]);
+    if let Some(out) = filled::<ROOM>().get_mut(..request.room) {
+        fetched_picture(block, request, out);
     }
 }

@@ -16,33 +16,26 @@
 
 #![tactic(auto)]
 
-use cases::{field, fill, named};
-use cursor::part_at;
+use cases::{Case, field};
 use listing_report::listed_to;
 use report::{STDIN_FILENO, text};
 
-// The array comes by value, so that each case gets one that is as it was filled.
-fn show(input: &[u8], case: &[u8], mut out: [u8; 22400]) {
-    let block = named(input, case, 8);
-    text(named(input, case, 0));
-    listed_to(block, &mut out, field(case, 16) as usize);
+// Shows a case.
+fn show(case: Case) {
+    text(case.named(0));
+    listed_to(case.named(8), case.field(16) as usize);
 }
 
 // Shows each case of the input.
-fn show_all(input: &[u8], out: [u8; 22400]) {
-    let count = field(input, 0) as usize;
-    let mut i: usize = 0;
-    while i < count {
-        show(input, part_at(input, 4 + 20 * i, 20), out);
-        i += 1;
+fn show_all(input: &[u8]) {
+    for n in 0..field(input, 0) {
+        show(Case::nth(input, 20, n));
     }
 }
 
 // Some cases have more than the 65,536 bytes that `io::large_buffer` has.
 fn main() {
     let mut input = [0; 196608];
-    let mut out = [0; 22400];
-    fill(&mut out);
     let n = io::read_full(STDIN_FILENO, &mut input);
-    show_all(&input[..n], out);
+    show_all(&input[..n]);
 }

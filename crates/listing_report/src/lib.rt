@@ -2,33 +2,27 @@
 
 #![tactic(auto)]
 
-use cases::add_all;
+use cases::{add_all, filled};
 use cursor::part_at;
-use errors::Refusal;
 use listing::list;
 use report::{counted, number, text};
 
-// Shows the text that a call with this answer wrote, or nothing where it was declined.
-fn written(answer: Result<usize, Refusal>, out: &[u8]) {
-    match answer {
-        Ok(n) => text(part_at(out, 0, n)),
-        Err(_) => {}
-    }
-}
+// The most bytes that an output has.
+const ROOM: usize = 22400;
 
-// Shows the call's answer, the sum of the output as the call left it, and the text.
+// Shows the call's answer, the sum of the output as the call left it, and the text, which is nothing where the call was declined.
 fn listed(input: &[u8], out: &mut [u8]) {
     let answer = list(input, out);
     counted(answer);
     text(b" |");
     number(add_all(1, out));
     text(b"\n");
-    written(answer, out);
+    text(part_at(out, 0, answer.unwrap_or(0)));
 }
 
-// The same, where the output is the first len bytes of out.
-pub fn listed_to(input: &[u8], out: &mut [u8], len: usize) {
-    if len <= out.len() {
-        listed(input, &mut out[..len]);
+// The same, where the output has len bytes, which are filled. A greater len than the most shows nothing.
+pub fn listed_to(input: &[u8], len: usize) {
+    if let Some(out) = filled::<ROOM>().get_mut(..len) {
+        listed(input, out);
     }
 }

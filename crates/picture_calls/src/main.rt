@@ -19,8 +19,7 @@
 
 #![tactic(auto)]
 
-use cases::{field, fill, named};
-use cursor::part_at;
+use cases::{Case, field, fill};
 use decode::decode_texture::decode_texture;
 use decode::picture::picture;
 use errors::Refusal;
@@ -29,67 +28,78 @@ use picture_report::written;
 use report::{STDIN_FILENO, text};
 use told::choice_of;
 
-// What the direct decoding that the case asks for answers.
-fn direct(input: &[u8], case: &[u8], out: &mut [u8]) -> Result<usize, Refusal> {
-    let params = TextureParams(field(case, 12));
-    let data1 = named(input, case, 28);
-    let data2 = named(input, case, 36);
-    let pal = named(input, case, 44);
-    decode_texture(
-        params,
-        data1,
-        data2,
-        choice_of(field(case, 16), field(case, 20)),
-        pal,
-        out,
-    )
+// What a case asks for.
+enum Asked<'a> {
+    Direct {
+        params: TextureParams,
+        data1: &'a [u8],
+        data2: &'a [u8],
+        palette: Option<u32>,
+        pal_block: &'a [u8],
+    },
+    FromBlock {
+        block: &'a [u8],
+        n: usize,
+        choice: Option<usize>,
+    },
 }
 
-// What the picture call that the case asks for answers.
-fn from_block(input: &[u8], case: &[u8], out: &mut [u8]) -> Result<usize, Refusal> {
-    let block = named(input, case, 28);
-    picture(
-        block,
-        field(case, 12) as usize,
-        choice_of(field(case, 16), field(case, 20) as usize),
-        out,
-    )
-}
+impl<'a> Asked<'a> {
+    // What the case asks for.
+    fn of(case: Case<'a>) -> Asked<'a> {
+        let palette = choice_of(case.field(16), case.field(20));
+        if case.field(0) == 0 {
+            Asked::Direct {
+                params: TextureParams(case.field(12)),
+                data1: case.named(28),
+                data2: case.named(36),
+                palette,
+                pal_block: case.named(44),
+            }
+        } else {
+            Asked::FromBlock {
+                block: case.named(28),
+                n: case.field(12) as usize,
+                choice: palette.map(|n| n as usize),
+            }
+        }
+    }
 
-// What the call that the case asks for answers.
-fn answer(input: &[u8], case: &[u8], out: &mut [u8]) -> Result<usize, Refusal> {
-    if field(case, 0) == 0 {
-        direct(input, case, out)
-    } else {
-        from_block(input, case, out)
+    // What the call that is asked for answers.
+    fn answer(self, out: &mut [u8]) -> Result<usize, Refusal> {
+        match self {
+            Asked::Direct {
+                params,
+                data1,
+                data2,
+                palette,
+                pal_block,
+            } => decode_texture(params, data1, data2, palette, pal_block, out),
+            Asked::FromBlock { block, n, choice } => picture(block, n, choice, out),
+        }
     }
 }
 
 // Runs the case with this output.
-fn run(input: &[u8], case: &[u8], out: &mut [u8]) {
-    text(named(input, case, 4));
+fn run(case: Case, out: &mut [u8]) {
+    text(case.named(4));
     text(b":");
     fill(out);
-    let c = answer(input, case, out);
-    written(c, out);
+    written(Asked::of(case).answer(out), out);
     text(b"\n");
 }
 
 // Runs the case with the part of the buffer that it asks for.
-fn show(input: &[u8], case: &[u8], buffer: &mut [u8]) {
-    let room = field(case, 24) as usize;
-    if room <= buffer.len() {
-        run(input, case, &mut buffer[..room]);
+fn show(case: Case, buffer: &mut [u8]) {
+    if let Some(out) = buffer.get_mut(..case.field(24) as usize) {
+        run(case, out);
     }
 }
 
 // Runs each case of the input.
 fn show_all(input: &[u8], buffer: &mut [u8]) {
-    let count = field(input, 0) as usize;
-    let mut i: usize = 0;
-    while i < count {
-        show(input, part_at(input, 4 + 52 * i, 52), buffer);
-        i += 1;
+    for n in 0..field(input, 0) {
+        show(Case::nth(input, 52, n), buffer);
     }
 }
 

@@ -28,55 +28,44 @@
 
 #![tactic(auto)]
 
-use cases::{field, fill, named};
-use cursor::part_at;
+use cases::{Case, field};
 use fetch_report::fetching;
 use report::{STDIN_FILENO, text};
 use stream_report::{Request, prefixes};
 use told::choice_of;
 
-// The picture that a case asks for.
-fn request_of(case: &[u8]) -> Request {
+// The records and the picture that a case asks for.
+fn request_of(case: Case) -> Request {
+    let palette = case.field(28) as usize;
     Request {
-        texture: field(case, 20) as usize,
-        choice: choice_of(field(case, 24), field(case, 28) as usize),
-        room: field(case, 32) as usize,
+        texture: case.field(20) as usize,
+        palette,
+        choice: choice_of(case.field(24), palette),
+        room: case.field(32) as usize,
     }
 }
 
-// The array comes by value, so that each case gets one that is as it was filled.
-fn show(input: &[u8], case: &[u8], mut out: [u8; 520]) {
-    let block = named(input, case, 12);
+// Shows a case.
+fn show(case: Case) {
+    text(case.named(4));
+    let block = case.named(12);
     let request = request_of(case);
-    text(named(input, case, 4));
-    if field(case, 0) == 0 {
-        prefixes(
-            block,
-            field(case, 36) as usize,
-            field(case, 28) as usize,
-            request,
-            out,
-        );
-    } else {
-        fetching(block, request, &mut out);
+    match case.field(0) {
+        0 => prefixes(block, case.field(36) as usize, request),
+        _ => fetching(block, request),
     }
 }
 
 // Shows each case of the input.
-fn show_all(input: &[u8], out: [u8; 520]) {
-    let count = field(input, 0) as usize;
-    let mut i: usize = 0;
-    while i < count {
-        show(input, part_at(input, 4 + 40 * i, 40), out);
-        i += 1;
+fn show_all(input: &[u8]) {
+    for n in 0..field(input, 0) {
+        show(Case::nth(input, 40, n));
     }
 }
 
-// Reads the input, and shows its cases with an output that is filled.
+// Reads the input, and shows its cases.
 fn main() {
     let mut input = io::large_buffer();
-    let mut out = [0; 520];
-    fill(&mut out);
     let n = io::read_full(STDIN_FILENO, &mut input);
-    show_all(&input[..n], out);
+    show_all(&input[..n]);
 }

@@ -1,66 +1,59 @@
-// The lines that the program `stream_calls` prints of prefixes of a block, and the picture that a case asks for.
+// The lines that the program `stream_calls` prints of prefixes of a block, and what a case asks for.
 
 #![tactic(auto)]
 
-use cases::add_all;
+use cases::{add_all, filled};
 use decode::picture::picture;
 use nitro::tex;
 use report::{counted, decimal, number, text};
 use stream_sums::{add_parts, palette, reading, texture};
 
-// The picture that a case asks for.
+// The most bytes that an output has.
+pub const ROOM: usize = 520;
+
+// The records and the picture that a case asks for.
 #[derive(Clone, Copy)]
 pub struct Request {
     pub texture: usize,
+    // The palette whose record is asked for.
+    pub palette: usize,
+    // The palette of the picture.
     pub choice: Option<usize>,
     // The output's length.
     pub room: usize,
 }
 
-// Shows the picture call's answer, and adds the whole output as the call left it.
-fn paint(sum: u64, block: &[u8], request: Request, out: &mut [u8]) -> u64 {
-    let choice = request.choice;
-    let c = picture(block, request.texture, choice, out);
-    counted(c);
+// Shows the picture call's answer for an output of len bytes, which are filled, and adds the whole output as the call left it. A greater len
+// than the most shows nothing.
+fn paint(sum: u64, block: &[u8], request: Request, len: usize) -> u64 {
+    let mut room = filled::<ROOM>();
+    let Some(out) = room.get_mut(..len) else {
+        return sum;
+    };
+    counted(picture(block, request.texture, request.choice, out));
     add_all(sum, out)
 }
 
-// The same, where the output is the first len bytes of out.
-fn paint_first(sum: u64, block: &[u8], request: Request, out: &mut [u8], len: usize) -> u64 {
-    if len <= out.len() {
-        paint(sum, block, request, &mut out[..len])
-    } else {
-        sum
-    }
-}
-
-// The same. The array comes by value, so that each call gets one that is as it was filled.
-fn paint_filled(sum: u64, block: &[u8], request: Request, mut out: [u8; 520], len: usize) -> u64 {
-    paint_first(sum, block, request, &mut out, len)
-}
-
 // A line of prefixes: the reading, both records, the parts and two pictures, on a block's first bytes alone.
-fn prefix(bytes: &[u8], k: usize, request: Request, out: [u8; 520]) {
+fn prefix(bytes: &[u8], request: Request) {
     let n = request.texture;
     decimal(bytes.len() as u64);
     reading(tex::read_tex(bytes));
     let with_texture = texture(1, bytes, n);
-    let with_palette = palette(with_texture, bytes, k);
+    let with_palette = palette(with_texture, bytes, request.palette);
     let with_parts = add_parts(with_palette, bytes, n);
-    let with_picture = paint_filled(with_parts, bytes, request, out, request.room);
-    let sum = paint_filled(with_picture, bytes, request, out, 12);
+    let with_picture = paint(with_parts, bytes, request, request.room);
+    let sum = paint(with_picture, bytes, request, 12);
     text(b" |");
     number(sum);
     text(b"\n");
 }
 
 // A line for each number of bytes from least to the block's length.
-pub fn prefixes(block: &[u8], least: usize, k: usize, request: Request, out: [u8; 520]) {
+pub fn prefixes(block: &[u8], least: usize, request: Request) {
     text(b"\n");
-    let mut n = least;
-    while n < block.len() {
-        prefix(&block[..n], k, request, out);
-        n += 1;
+    for n in least..block.len() {
+        prefix(&block[..n], request);
     }
-    prefix(block, k, request, out);
+    prefix(block, request);
 }

@@ -1,8 +1,0 @@
--- `fetch_report::fetching` meets its contract: the part of the array is as long as it is said to be. Assumes nothing.
-use mathlib.Core.Path.{sym}
-use native.Mathlib.Omega.{arith}
-use lib.Seq.{length-take-le}
-use Rattle.fetch_report.proofs.fetching.Goals as goal
-
-pub slice_bounds-fetched_picture-end-then-len-out : goal.slice_bounds-fetched_picture-end-then-len-out
-slice_bounds-fetched_picture-end-then-len-out c = sym (length-take-le _ _ (omega arith))
