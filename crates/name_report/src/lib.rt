@@ -7,15 +7,14 @@ use errors::Refusal;
 use name::Name;
 use report::text;
 
-// Prints what a name call answers to an output of N bytes that are filled with `fill`, and all of the output.
+// Prints what a name call answers to an output, and all of the output.
 fn written<const N: usize, F: FnOnce(&mut [u8]) -> Result<usize, Refusal>>(
     title: &[u8],
-    fill: u8,
+    mut out: [u8; N],
     call: F,
 )
     requires { F.IsAlwaysCallable call }
 {
-    let mut out = [fill; N];
     text(title);
     counted(call(&mut out));
     text(b" ");
@@ -23,20 +22,10 @@ fn written<const N: usize, F: FnOnce(&mut [u8]) -> Result<usize, Refusal>>(
     text(b"\n");
 }
 
-// A name's safe text in an output of N bytes.
-fn safe<const N: usize>(name: Name) {
-    written::<N, _>(b"safe", b'.', |out| name.print_safe(out));
-}
-
-// A name's Display text in an output of N bytes.
-fn display<const N: usize>(name: Name) {
-    written::<N, _>(b"display", b'-', |out| name.display(out));
-}
-
 // Both texts of a name, in an output that holds any text and in one of three bytes.
 pub fn texts(name: Name) {
-    safe::<32>(name);
-    safe::<3>(name);
-    display::<32>(name);
-    display::<3>(name);
+    written(b"safe", [b'.'; 32], |out| name.print_safe(out));
+    written(b"safe", [b'.'; 3], |out| name.print_safe(out));
+    written(b"display", [b'-'; 32], |out| name.display(out));
+    written(b"display", [b'-'; 3], |out| name.display(out));
 }

@@ -6,9 +6,8 @@ use block_report::counted;
 use errors::Kind;
 use report::{numbers, text};
 
-// Prints what the call for all rows of a kind answers to an output of N numbers, and all of the output.
-fn rows<const N: usize>(block: &[u8], kind: Kind) {
-    let mut out = [7; N];
+// Prints what the call for all rows of a kind answers to an output, and all of the output.
+fn rows<const N: usize>(block: &[u8], kind: Kind, mut out: [usize; N]) {
     text(b"rows");
     counted(rows::rows(block, kind, &mut out));
     text(b" of");
@@ -18,8 +17,8 @@ fn rows<const N: usize>(block: &[u8], kind: Kind) {
 
 // The rows of both kinds, in outputs that are long enough for three textures and two palettes, and in short ones.
 pub fn all_rows(block: &[u8]) {
-    rows::<19>(block, Kind::Texture);
-    rows::<5>(block, Kind::Texture);
-    rows::<5>(block, Kind::Palette);
-    rows::<1>(block, Kind::Palette);
+    rows(block, Kind::Texture, [7; 19]);
+    rows(block, Kind::Texture, [7; 5]);
+    rows(block, Kind::Palette, [7; 5]);
+    rows(block, Kind::Palette, [7; 1]);
 }
