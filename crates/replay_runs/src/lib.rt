@@ -17,10 +17,10 @@ fn run_block() -> Result<bool, Broken> {
 
 // Whether the list's next case agrees, or None at the list's end. A case's first byte says what it is.
 pub fn run_case() -> Result<Option<bool>, Broken> {
-    let Ok([first]) = next_array::<1>() else {
+    let Ok(first) = next_array::<1>() else {
         return Ok(None);
     };
-    match first {
+    match first[0] {
         b'B' => Ok(Some(run_block()?)),
         b'D' => Ok(Some(run_direct()?)),
         _ => Err(Broken),
