@@ -1,7 +1,7 @@
 -- The laws of what a picture is made from, and of where that is. Assumes nothing.
 use Rattle.std.specs.Prelude.{Option, None, Some}
 use Prim.Native.Nat.{ℕ, ◌+◌, ◌≤◌, ◌<◌}
-use mathlib.Core.Path.{◌≡◌, refl, sym, ap, ◌∙◌, subst}
+use mathlib.Core.Path.{◌≡◌, refl, sym, ap, ◌∙◌}
 use mathlib.Core.Bool.{Bool, true, false}
 use mathlib.Core.List.{List}
 use native.Mathlib.Omega.{arith}
@@ -9,26 +9,26 @@ use lib.ListN.{length, get_or, take}
 use lib.Dec.{ltb}
 use borrow.Author.Tests.{ltb-true, ltb-false}
 use Rattle.util.specs.Outcome.{Outcome, result, refusal, ◌>>=◌}
-use Rattle.errors.specs.Refusal.{refusal_outcome}
+use Rattle.errors.specs.Refusal.{absent_number, refusal_outcome}
 use Rattle.errors.specs.declared.Kind.TheVariants as kinds
 use Rattle.errors.specs.declared.Refusal.{Refusal}
 use Rattle.errors.proofs.Refusals.{refusal_not, refusal_any}
+use Rattle.errors.proofs.Refusals as refusals
 use Rattle.scripts.specs.Script.{Answer, short, fault, whole, run, outcome_of}
 use Rattle.info_block.specs.InfoBlock.{list_length}
 use Rattle.reading.specs.Tex as Tex
 use Rattle.reading.specs.Tex.{Contents, header_of, read_tex}
 use Rattle.nitro.specs.Calls.{entry, texture_entry, part_of, data1_of, data2_of, pal_block_of}
 use Rattle.places.specs.Sources.{Sources, chosen_of, sources_of, sources_at, places_at, places_of, part_at, pal_place_at, pal_place_of}
-use Rattle.reading.specs.Layouts.{layout_of}
-use Rattle.nitro.specs.ByLayout.{layout_with}
+use Rattle.reading.specs.Layouts.{layout_of, layout_answer, LaidOut}
 use Rattle.places.specs.ByLayout.{chosen_by, places_by}
 use Rattle.layout.specs.declared.Header.{Header}
 use Rattle.layout.specs.declared.Layout.{Layout}
 use Rattle.places.specs.declared.Place.{Place}
 use Rattle.places.specs.declared.Places.{Places}
-use Rattle.scripts.proofs.Runs.{whole_outcome, ended}
+use Rattle.scripts.proofs.Runs.{whole_outcome, ended, follows_self, refused}
 use Rattle.reading.proofs.Readings.{finished, textures_listed, palettes_listed, pal_block_whole}
-use Rattle.nitro.proofs.Answers.{entry_in, entry_out, found, no_entry, blank_texture, blank_palette}
+use Rattle.nitro.proofs.Answers.{entry_in, entry_out, blank_texture, blank_palette}
 
 -- the palette block by its place
 pub placed_part : (b : List ℕ) {place : Place} → result place ≡ pal_place_of b (run read_tex b) → part_at b place ≡ pal_block_of (run read_tex b)
@@ -36,6 +36,17 @@ unfolding pal_place_of pal_block_of
 placed_part b e =
     let o = ended (run read_tex b) (λ _. pal_place_at (header_of (take 60 b))) e in
     rw o.gives (sym (pal_block_whole _ b (finished b o.is).pal_block_lem) ∙ ap part_of (whole_outcome _ o.is))
+
+-- the palette block's place, by the layout that was found
+pub pal_place_found : (b : List ℕ) {l : Layout} → result l ≡ layout_answer b (run read_tex b)
+    → result (pal_place_at l.header) ≡ pal_place_of b (run read_tex b)
+unfolding pal_place_of layout_answer
+pal_place_found b e = let o = ended _ _ e in ap (λ (x : Layout). result (pal_place_at x.header)) o.gives ∙ whole_outcome _ o.is
+
+pub pal_place_refused : (b : List ℕ) (r : Refusal) → refusal_outcome r ≡ layout_answer b (run read_tex b)
+    → refusal_outcome r ≡ pal_place_of b (run read_tex b)
+unfolding pal_place_of layout_answer
+pal_place_refused b r e = refused _ _ (follows_self _) _ _ r e
 
 -- the chosen palette of a finished reading, by the layout
 chosen_there : (b : List ℕ) {c : Contents} → run read_tex b ≡ whole c → (choice : Option ℕ)
@@ -109,34 +120,48 @@ module _ (n : ℕ) (choice : Option ℕ) (b : List ℕ) {c : Contents} (is : run
           rw (same, sources_by q, parts_at p)
 
 -- the same by the layout that the code has
-pub record SourcesFound (n : ℕ) (choice : Option ℕ) (b : List ℕ) (l : Layout) : Type 0 where
-  pub within : l.header.palette_off + list_length kinds.Palette l.palettes ≤ length b
-  pub there : {p : Option ℕ} → result p ≡ chosen_by b l choice → result (places_by b l n p) ≡ places_of n choice b (run read_tex b)
-  pub absent : (r : Refusal) → refusal_outcome r ≡ chosen_by b l choice → refusal_outcome r ≡ places_of n choice b (run read_tex b)
+module _ (n : ℕ) (choice : Option ℕ) (b : List ℕ) where
+  pub places_refused : (r : Refusal) → refusal_outcome r ≡ layout_answer b (run read_tex b) → refusal_outcome r ≡ places_of n choice b (run read_tex b)
+  unfolding places_of sources_of layout_answer
+  places_refused r e = passed_on r (sources_of n choice (run read_tex b)) _ (refused _ _ (follows_self _) _ _ r e)
 
-pub sources_found : (n : ℕ) (choice : Option ℕ) (b : List ℕ) {l : Layout}
-    → result l ≡ layout_with kinds.Texture n b (run read_tex b) → SourcesFound n choice b l
-sources_found n choice b e =
-    let o = found kinds.Texture n b (run read_tex b) e in
-    subst (SourcesFound n choice b) (sym o.laid)
-    (record {
-      within = (palettes_listed (header_of (take 60 b)) b (finished b o.is).palettes).within;
-      there = places_there n choice b o.is o.below;
-      absent = places_absent n choice b o.is o.below;
-    })
+  module _ {l : Layout} (laid : LaidOut b l) where
+    pub palettes_within : l.header.palette_off + list_length kinds.Palette l.palettes ≤ length b
+    unfolding layout_answer
+    palettes_within = let o = ended _ _ laid.is in rw o.gives (palettes_listed (header_of (take 60 b)) b (finished b o.is).palettes).within
 
-no_texture_sources : (n : ℕ) (choice : Option ℕ) (b : List ℕ) (r : Refusal) (a : Answer Contents)
-    → refusal_outcome r ≡ layout_with kinds.Texture n b a → refusal_outcome r ≡ sources_of n choice a
-unfolding sources_of layout_with outcome_of
-no_texture_sources n choice b r (short w) e = refusal_any r e
-no_texture_sources n choice b r (fault w) e = refusal_any r e
-no_texture_sources n choice b r (whole c) e =
-    passed_on r _ _ (no_entry kinds.Texture n b (λ c. c.textures) (λ t. t) (λ c. refl) r (whole c) e)
+    pub textures_within : l.header.texture_off + list_length kinds.Texture l.textures ≤ length b
+    unfolding layout_answer
+    textures_within = let o = ended _ _ laid.is in rw o.gives (textures_listed (header_of (take 60 b)) b (finished b o.is).textures).within
 
-pub no_sources : (n : ℕ) (choice : Option ℕ) (b : List ℕ) (r : Refusal) (a : Answer Contents)
-    → refusal_outcome r ≡ layout_with kinds.Texture n b a → refusal_outcome r ≡ places_of n choice b a
-unfolding places_of
-no_sources n choice b r a e = passed_on r (sources_of n choice a) _ (no_texture_sources n choice b r a e)
+    pub no_texture : l.textures ≤ n → refusal (absent_number kinds.Texture) 0 ≡ places_of n choice b (run read_tex b)
+    unfolding places_of sources_of layout_answer outcome_of ◌>>=◌
+    no_texture h =
+        let o = ended _ _ laid.is in
+        rw (o.is, entry_out kinds.Texture (λ (t : Tex.Texture). t) _ n (rw o.gives at h))
+
+    pub places_found : {p : Option ℕ} → n < l.textures → result p ≡ chosen_by b l choice
+        → result (places_by b l n p) ≡ places_of n choice b (run read_tex b)
+    unfolding layout_answer
+    places_found h e = let o = ended _ _ laid.is in rw o.gives (places_there n choice b o.is (rw o.gives at h) (rw o.gives at e))
+
+    pub no_palette : n < l.textures → (r : Refusal) → refusal_outcome r ≡ chosen_by b l choice
+        → refusal_outcome r ≡ places_of n choice b (run read_tex b)
+    unfolding layout_answer
+    no_palette h r e = let o = ended _ _ laid.is in places_absent n choice b o.is (rw o.gives at h) r (rw o.gives at e)
+
+-- for the functions that find places
+pub ruleset finds = (
+  refusals.passed_on,
+  pal_place_found,
+  pal_place_refused,
+  places_refused,
+  palettes_within,
+  textures_within,
+  no_texture,
+  places_found,
+  no_palette,
+)
 
 -- what the parts at the places that were found are
 pub located_sources : (n : ℕ) (choice : Option ℕ) (b : List ℕ) {places : Places}

@@ -46,6 +46,7 @@ fn pal_place_at(header: Header) -> Place
 }
 
 // Where the palette block is.
+#[tactic(auto, using(crate::proofs::Sources::finds))]
 pub fn pal_place(block: &[u8]) -> Result<Place, Refusal>
     ensures { result_outcome result ≡ Sources.pal_place_of block.now (run Tex.read_tex block.now) }
 {
@@ -70,6 +71,7 @@ fn chosen_off(block: &[u8], layout: Layout, choice: Option<usize>) -> Result<Opt
 }
 
 // The places of texture n by the block's layout, beside a palette's offset.
+#[tactic(auto, unfolding(crate::specs::ByLayout::places_by))]
 pub fn places_of(block: &[u8], layout: Layout, n: usize, palette: Option<u32>) -> Places
     requires { (layout.header.texture_off + list_length kinds.Texture layout.textures ≤ length block.now) × (n < layout.textures) }
     ensures { result ≡ ByLayout.places_by block.now layout n palette }
@@ -93,6 +95,7 @@ pub fn places_of(block: &[u8], layout: Layout, n: usize, palette: Option<u32>) -
 
 // Where in the block all that a picture of texture n with the chosen palette is made from is, by the block's layout: one reading serves for many
 // pictures.
+#[tactic(auto, using(crate::proofs::Sources::finds))]
 pub fn locate_by(
     block: &[u8],
     layout: Layout,
@@ -110,6 +113,7 @@ pub fn locate_by(
 }
 
 // Where in the block all that a picture of texture n with the chosen palette is made from is.
+#[tactic(auto, using(crate::proofs::Sources::finds))]
 pub fn locate(block: &[u8], n: usize, choice: Option<usize>) -> Result<Places, Refusal>
     ensures { result_outcome result ≡ Sources.places_of n choice block.now (run Tex.read_tex block.now) }
 {
