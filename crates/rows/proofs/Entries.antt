@@ -1,4 +1,5 @@
 -- The laws of rows: by the layout that the code has, and where the parts are that a row tells of. Assumes nothing.
+use Rattle.std.specs.Prelude.{Result, IsErrAnd}
 use Prim.Native.Nat.{ℕ, ◌+◌, ◌-◌, ◌*◌, ◌≤◌, ◌<◌}
 use mathlib.Core.Path.{◌≡◌, refl, sym, ap, subst, ◌∙◌}
 use mathlib.Core.Bool.{Bool, true, false}
@@ -7,19 +8,21 @@ use native.Mathlib.Nat.{zero-add, suc-mul, mul-le-mul_right}
 use native.Mathlib.Numerals.{add-one}
 use native.Mathlib.Omega.{arith}
 use lib.ListN.{length, take, drop, get_or, length-drop}
-use lib.Seq.{drop-drop, length-take-le, sets, sets-eq, length-sets}
+use lib.Seq.{drop-drop, length-take-le, sets, sets-eq}
 use lib.Dec.{leb, eqb}
 use borrow.Author.Tests.{leb-true, eqb-true}
 use borrow.Rule.Slice.PartMut.{put_mid}
-use Rattle.util.specs.Outcome.{result, refusal}
+use Rattle.util.specs.Outcome.{result}
 use Rattle.util.specs.Take.{taken_part}
 use Rattle.util.proofs.Parts.{part_of_part}
 use Rattle.output.specs.Output.{Writes, pieces}
-use Rattle.errors.specs.Refusal.{refusal_outcome}
+use Rattle.errors.specs.Refusal.{refusal_outcome, result_outcome}
 use Rattle.errors.specs.declared.Kind.{Kind}
 use Rattle.errors.specs.declared.Kind.TheVariants as kinds
 use Rattle.errors.specs.declared.Refusal.{Refusal}
-use Rattle.output.proofs.Outputs.{sets_append, writes_sets, writes_short, pieces_length, pieces_listed}
+use Rattle.errors.specs.declared.Refusal.TheVariants.{Output}
+use Rattle.errors.proofs.Refusals.{passed_on}
+use Rattle.output.proofs.Outputs.{sets_append, writes_refusal, writes_sets, writes_short, pieces_length, pieces_listed}
 use Rattle.scripts.specs.Script.{whole, run}
 use Rattle.info_block.specs.InfoBlock.{name_at, list_length}
 use Rattle.reading.specs.Tex.{Texture, Contents, header_of, read_tex}
@@ -53,9 +56,6 @@ module _ (kind : Kind) (b : List ℕ) (l : Layout) where
   pub rows_length : (n : ℕ) → length (pieces (row_by kind b l) n) ≡ n * row_length kind
   rows_length n = pieces_length (row_by kind b l) (row_length kind) n (λ i h. row_length_lem i)
 
-  pub rows_same_length : (n : ℕ) (entry : List ℕ) {out : List ℕ} → out ≡ sets entry 0 (pieces (row_by kind b l) n) → length out ≡ length entry
-  rows_same_length n entry e = rw e (length-sets entry 0 (pieces (row_by kind b l) n))
-
   pub row_behind : (n : ℕ) (entry : List ℕ) {out : List ℕ} → out ≡ sets entry 0 (pieces (row_by kind b l) n)
       → sets out (n * row_length kind) (row_by kind b l n) ≡ sets entry 0 (pieces (row_by kind b l) (n + 1))
   unfolding pieces
@@ -67,9 +67,9 @@ pub row_room : (m n count : ℕ) {len : ℕ} → n < count → count * m ≤ len
 row_room m n count h r = omega (arith, mul-le-mul_right m h, suc-mul n m, r)
 
 -- as many numbers as the block has bytes, or fewer
-pub rows_few : (kind : Kind) (l : Layout) → count_of kind l * row_length kind ≤ list_end kind l
-rows_few kinds.Texture l = omega arith
-rows_few kinds.Palette l = omega arith
+entries_few : (kind : Kind) (l : Layout) → count_of kind l * row_length kind ≤ list_end kind l
+entries_few kinds.Texture l = omega arith
+entries_few kinds.Palette l = omega arith
 
 -- the rows of a finished reading, by the layout
 module _ (b : List ℕ) {c : Contents} (is : run read_tex b ≡ whole c) where
@@ -92,18 +92,6 @@ pub record RowsFound (kind : Kind) (b : List ℕ) (l : Layout) : Type 0 where
   pub within : list_end kind l ≤ length b
   pub made : result (pieces (row_by kind b l) (count_of kind l)) ≡ rows_of kind b (run read_tex b)
 
-module _ {kind : Kind} {b : List ℕ} {l : Layout} (o : RowsFound kind b l) (entry : List ℕ) where
-  -- they are written where there is room, and are not where there is none
-  pub rows_written : count_of kind l * row_length kind ≤ length entry
-      → Writes (rows_of kind b (run read_tex b)) entry (result (count_of kind l * row_length kind))
-      (sets entry 0 (pieces (row_by kind b l) (count_of kind l)))
-  rows_written h =
-      rw (← o.made, ← rows_length kind b l (count_of kind l))
-      (writes_sets (pieces (row_by kind b l) (count_of kind l)) entry (rw rows_length h))
-
-  pub rows_unwritten : length entry < count_of kind l * row_length kind → Writes (rows_of kind b (run read_tex b)) entry (refusal 11 0) entry
-  rows_unwritten h = rw (← o.made) (writes_short (pieces (row_by kind b l) (count_of kind l)) entry (rw rows_length h))
-
 pub rows_found : (kind : Kind) (b : List ℕ) {l : Layout} → result l ≡ layout_answer b (run read_tex b) → RowsFound kind b l
 unfolding layout_answer rows_of
 rows_found kind b e =
@@ -111,10 +99,33 @@ rows_found kind b e =
     subst (RowsFound kind b) (sym o.gives)
     (record { within = list_within b o.is kind; made = ap result (rows_laid b o.is kind) ∙ whole_outcome _ o.is })
 
-pub rows_refused : (kind : Kind) (b : List ℕ) (r : Refusal) → refusal_outcome r ≡ layout_answer b (run read_tex b)
-    → refusal_outcome r ≡ rows_of kind b (run read_tex b)
-unfolding layout_answer rows_of
-rows_refused kind b r e = refused _ _ (follows_self _) _ _ r e
+-- what the code does with them: they are written where there is room, and are not where there is none
+module _ (kind : Kind) (b : List ℕ) (entry : List ℕ) where
+  pub rows_refused : (answer : Result ℕ Refusal) (r : Refusal) → IsErrAnd answer (λ y. y ≡ r) → refusal_outcome r ≡ layout_answer b (run read_tex b)
+      → Writes (rows_of kind b (run read_tex b)) entry (result_outcome answer) entry
+  unfolding layout_answer rows_of
+  rows_refused answer r is e = rw (passed_on answer r is) (writes_refusal r entry (refused _ _ (follows_self _) _ _ r e))
+
+  module _ {l : Layout} (laid : result l ≡ layout_answer b (run read_tex b)) where
+    pub rows_within : list_end kind l ≤ length b
+    rows_within = (rows_found kind b laid).within
+
+    pub rows_few : count_of kind l * row_length kind ≤ length b
+    rows_few = omega (arith, entries_few kind l, rows_within)
+
+    pub rows_written : count_of kind l * row_length kind ≤ length entry
+        → Writes (rows_of kind b (run read_tex b)) entry (result (count_of kind l * row_length kind))
+        (sets entry 0 (pieces (row_by kind b l) (count_of kind l)))
+    rows_written h =
+        rw (← (rows_found kind b laid).made, ← rows_length kind b l (count_of kind l))
+        (writes_sets (pieces (row_by kind b l) (count_of kind l)) entry (rw rows_length h))
+
+    pub rows_unwritten : length entry < count_of kind l * row_length kind → Writes (rows_of kind b (run read_tex b)) entry (refusal_outcome Output) entry
+    rows_unwritten h =
+        rw (← (rows_found kind b laid).made) (writes_short (pieces (row_by kind b l) (count_of kind l)) entry (rw rows_length h))
+
+-- for the function that writes them
+pub ruleset writes_rows = (rows_within, rows_few, rows_written)
 
 -- a part that was taken, by its place
 pub place_inside : (b : List ℕ) (p n : ℕ) → Inside b (taken_part p n b) (place_of p (taken_part p n b))

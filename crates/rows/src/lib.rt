@@ -88,6 +88,7 @@ fn put_entry(rows: &mut [usize], at: usize, block: &[u8], kind: Kind, layout: La
 }
 
 // Puts the rows of all entries.
+#[tactic(auto, using(crate::proofs::Entries::row_behind), unfolding(output::specs::Output::pieces))]
 fn put_rows(rows: &mut [usize], block: &[u8], kind: Kind, layout: Layout)
     requires { (count_of kind layout * ByLayout.row_length kind ≤ length rows.old) × (ByLayout.list_end kind layout ≤ length block.now) }
     ensures { rows.new ≡ sets rows.old 0 (pieces (ByLayout.row_by kind block.now layout) (count_of kind layout)) }
@@ -101,6 +102,7 @@ fn put_rows(rows: &mut [usize], block: &[u8], kind: Kind, layout: Layout)
 // Writes a row of numbers for each texture, or for each palette, and answers with how many numbers that are. All are of one reading. A
 // texture has six: where its name begins, its word, where its data begin and how long they are, and the same of its second data. A palette
 // has two: where its name begins, and its offset in bytes.
+#[tactic(auto, using(crate::proofs::Entries::writes_rows))]
 pub fn rows(block: &[u8], kind: Kind, out: &mut [usize]) -> Result<usize, Refusal>
     ensures { Writes (Rows.rows_of kind block.now (run Tex.read_tex block.now)) out.old (result_outcome result) out.new }
 {
