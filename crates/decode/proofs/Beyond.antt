@@ -54,25 +54,25 @@ module _ (s : Sources) (n : ℕ) (h : n < texel_count s.word) where
   unfolding format1
   same1 e =
       let l : n < data_length s.word = omega (arith, length_by s.word e) in
-      rw (texel_by s e n, texel_by (needed s) e n, get_or-take)
+      rw (texel_by 1 s e n, texel_by 1 (needed s) e n, get_or-take)
 
   same2 : format s.word ≡ 2 → texel s n ≡ texel (needed s) n
   unfolding formats2to4 texel_bits
   same2 e =
       let l : n * 2 / 8 < data_length s.word = omega (arith, (eights s.word).texels, length_by s.word e) in
-      rw (texel_by s e n, texel_by (needed s) e n, get_or-take)
+      rw (texel_by 2 s e n, texel_by 2 (needed s) e n, get_or-take)
 
   same3 : format s.word ≡ 3 → texel s n ≡ texel (needed s) n
   unfolding formats2to4 texel_bits
   same3 e =
       let l : n * 4 / 8 < data_length s.word = omega (arith, (eights s.word).texels, length_by s.word e) in
-      rw (texel_by s e n, texel_by (needed s) e n, get_or-take)
+      rw (texel_by 3 s e n, texel_by 3 (needed s) e n, get_or-take)
 
   same4 : format s.word ≡ 4 → texel s n ≡ texel (needed s) n
   unfolding formats2to4 texel_bits
   same4 e =
       let l : n * 8 / 8 < data_length s.word = omega (arith, length_by s.word e) in
-      rw (texel_by s e n, texel_by (needed s) e n, get_or-take)
+      rw (texel_by 4 s e n, texel_by 4 (needed s) e n, get_or-take)
 
   same5 : format s.word ≡ 5 → texel s n ≡ texel (needed s) n
   unfolding format5
@@ -82,19 +82,19 @@ module _ (s : Sources) (n : ℕ) (h : n < texel_count s.word) where
       let sizes = eights w in
       let l : 4 * b + 4 ≤ data_length w = omega (arith, block_below w n h, length_by w e) in
       let l' : 2 * b + 2 ≤ second_length w = omega (arith, block_below w n h, length_by w e, second_by w e) in
-      rw (texel_by s e n, texel_by (needed s) e n, number_cut 4 (4 * b), number_cut 2 (2 * b))
+      rw (texel_by 5 s e n, texel_by 5 (needed s) e n, number_cut 4 (4 * b), number_cut 2 (2 * b))
 
   same6 : format s.word ≡ 6 → texel s n ≡ texel (needed s) n
   unfolding format6
   same6 e =
       let l : n < data_length s.word = omega (arith, length_by s.word e) in
-      rw (texel_by s e n, texel_by (needed s) e n, get_or-take)
+      rw (texel_by 6 s e n, texel_by 6 (needed s) e n, get_or-take)
 
   same7 : format s.word ≡ 7 → texel s n ≡ texel (needed s) n
   unfolding format7
   same7 e =
       let l : 2 * n + 2 ≤ data_length s.word = omega (arith, length_by s.word e) in
-      rw (texel_by s e n, texel_by (needed s) e n, number_cut)
+      rw (texel_by 7 s e n, texel_by 7 (needed s) e n, number_cut)
 
   -- format 0 has none
   same_texel : (format s.word ≡ 0 → ⊥) → texel s n ≡ texel (needed s) n

@@ -205,7 +205,7 @@ module _ (s : Sources) where
         }))
 
 -- texels by format
-module _ (s : Sources) {f : ℕ} (is : format s.word ≡ f) where
+module _ (f : ℕ) (s : Sources) (is : format s.word ≡ f) where
   pub texel_by : (n : ℕ) → texel s n ≡ texel_in f s n
   unfolding texel
   texel_by n = rw is
@@ -232,9 +232,9 @@ module _ {w length1 length2 output : ℕ} (d : Decodable w length1 length2 outpu
       let all : texel_count w * bits ≡ 8 * (8 * m * bits) = rw ((eights w).texels, ← mul_assoc 8 (8 * m) bits, ← mul_assoc 8 8 m) refl in
       rw count (omega (arith, d.data1, length_by w is, all))
 
-  pub indexed_fits : {n f : ℕ} → n ≡ texel_count w → n < 2 ^ 32 → format w ≡ f → 0 < bits_per_texel f → bits_per_texel f ≤ 8
+  pub indexed_fits : {n : ℕ} (f : ℕ) → (n ≡ texel_count w) × (n < 2 ^ 32) → format w ≡ f → 0 < bits_per_texel f → bits_per_texel f ≤ 8
       → IndexedFits (bits_per_texel f) n length1 output
-  indexed_fits count small is some byte =
+  indexed_fits f (count, small) is some byte =
       record { some = some; byte = byte; small = small; there = bits_there count is; room = omega (arith, count, d.room) }
 
   pub direct_fits : {n : ℕ} → n ≡ texel_count w → format w ≡ 7 → (4 * n ≤ output) × (2 * n ≤ length1)

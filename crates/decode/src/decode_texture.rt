@@ -14,6 +14,7 @@ use paint::{decode_format1, decode_format2, decode_format3, decode_format4, deco
 use texels::Palette;
 
 // The number of texels of a picture.
+#[tactic(auto, using(nds::proofs::Sizes::area_lt, nds::proofs::Sizes::width_le, nds::proofs::Sizes::height_le))]
 fn num_texels(params: TextureParams) -> usize
     ensures { (result ≡ Pictures.texel_count params.0) × (result < 2 ^ 32) }
 {
