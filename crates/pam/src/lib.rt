@@ -18,6 +18,7 @@ use places::locate;
 use text::{put, put_number};
 
 // The header of a picture of the word's size, at the output's start.
+#[tactic(auto, using(text::proofs::Puts::puts, crate::proofs::Headers::header_is), unfolding(text::specs::Text::ascii, crate::proofs::Headers::last_lines))]
 fn put_header(out: &mut [u8], params: TextureParams) -> usize
     requires { Room (Pam.header_text params.0) out.old 0 }
     ensures { Put (Pam.header_text params.0) out.old 0 out.new result }
