@@ -123,9 +123,7 @@ fn show(params: TextureParams) {
 
 // Writes the line of each word.
 fn main() {
-    let mut i = 0;
-    while i < WORDS.len() {
-        show(TextureParams(WORDS[i]));
-        i += 1;
+    for word in WORDS {
+        show(TextureParams(word));
     }
 }

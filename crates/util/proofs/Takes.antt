@@ -1,6 +1,6 @@
 -- The laws of `take_of`, `taken_part` and `length_of`. Assumes nothing.
 use Prim.Native.Nat.{ℕ, ◌+◌, ◌^◌, ◌≤◌, ◌<◌}
-use mathlib.Core.Path.{◌≡◌, refl, sym}
+use mathlib.Core.Path.{◌≡◌, refl, sym, ap, ◌∙◌}
 use mathlib.Core.Bool.{Bool, true, false, cond}
 use mathlib.Core.List.{List, []}
 use native.Mathlib.Omega.{arith}
@@ -70,6 +70,19 @@ module _ (needed : Needed) where
       go : (t : Bool) → needed.carry ≡ t → needed.low ≡ length_of needed
       go true e = absurd (omega (arith, past_64 e))
       go false e = sym (within_64 e)
+
+-- the bytes of a take end at `needed`: the take passes where that is within the slice, and is short where it has a carry or is past the slice
+module _ {A : Type 0} (needed : Needed) (len p n : ℕ) (passed : A) (ends : length_of needed ≡ p + n) where
+  pub end_carried : len < 2 ^ 64 → needed.carry ≡ true → refusal 1 (length_of needed) ≡ take_of len p n passed
+  end_carried h e = ap (refusal 1) ends ∙ falls_short len p n passed (omega (arith, past_64 needed e))
+
+  pub end_past : needed.carry ≡ false → len < needed.low → refusal 1 (length_of needed) ≡ take_of len p n passed
+  end_past e h = ap (refusal 1) ends ∙ falls_short len p n passed (omega (arith, within_64 needed e))
+
+pub end_within : (needed : Needed) (len p n : ℕ)
+    → length_of needed ≡ p + n → needed.carry ≡ false → needed.low ≤ len → result needed.low ≡ take_of len p n (p + n)
+end_within needed len p n ends e h =
+    ap result (sym (within_64 needed e) ∙ ends) ∙ passes len p n (p + n) (omega (arith, within_64 needed e))
 
 module _ (p n : ℕ) (block : List ℕ) where
   pub part_there : p + n ≤ length block → take n (drop p block) ≡ taken_part p n block

@@ -17,29 +17,17 @@ pub struct Needed {
 fn end_of(pos: usize, n: usize) -> Needed
     ensures { length_of result ≡ pos + n }
 {
-    let room = usize::MAX - pos;
-    if n <= room {
-        Needed {
-            low: pos + n,
-            carry: false,
-        }
-    } else {
-        Needed {
-            low: n - room - 1,
-            carry: true,
-        }
-    }
+    let (low, carry) = pos.overflowing_add(n);
+    Needed { low, carry }
 }
 
 // The position behind n bytes at pos, where buf holds them. A take of 0 bytes passes at buf's end, and not beyond it.
+#[tactic(auto, using(crate::proofs::Takes::end_within, crate::proofs::Takes::end_carried, crate::proofs::Takes::end_past))]
 pub fn take_at(buf: &[u8], pos: usize, n: usize) -> Result<usize, Needed>
     ensures { taken_outcome result ≡ take_of (length buf.now) pos n (pos + n) }
 {
     let end = end_of(pos, n);
-    if end.carry {
-        return Err(end);
-    }
-    if buf.len() < end.low {
+    if end.carry || buf.len() < end.low {
         return Err(end);
     }
     Ok(end.low)
