@@ -24,7 +24,7 @@ impl<'a> Cur<'a> {
     {
         let before = 2 * (n as usize);
         take_at(self.buf, self.pos, before + 2)?;
-        Ok(u16::view(self.buf, self.pos + before) as u32)
+        Ok(u32::from(u16::view(self.buf, self.pos + before)))
     }
 
     // The n bytes at the position, which moves behind them, as the part of the slice that they occupy. A short take hands out the empty part
@@ -55,6 +55,5 @@ pub fn nth_u16(buf: &[u8], pos: usize, n: u32) -> Result<u32, Needed>
 pub fn part_at(buf: &[u8], pos: usize, n: usize) -> &[u8]
     ensures { result.now ≡ taken_part pos n buf.now }
 {
-    let mut cur = Cur { buf, pos };
-    cur.next_n_u8s(n)
+    Cur { buf, pos }.next_n_u8s(n)
 }
