@@ -2,33 +2,38 @@
 
 #![tactic(auto)]
 
-ghost use Rattle.std.specs.Prelude.{◌≡◌, ◌+◌, ◌*◌, ◌≤◌, length};
+ghost use Rattle.std.specs.Prelude.{◌≡◌, ◌+◌, ◌*◌, ◌≤◌, ◌<◌, length};
 ghost use Rattle.texels.specs.Texels as Texels;
 ghost use Rattle.paint.specs.Paint as Paint;
 ghost use Rattle.direct.specs.Words as Words;
 
-use paint::put_pixel;
+use paint::put_texels;
+use std::array;
 use texels::{direct, extend_5bit_to_8bit};
 use util::unsigned::Unsigned;
 
 // Direct colour texture, each texel by itself.
+#[tactic(auto, unfolding(texels::specs::Texels::format7))]
 fn decode_small_format7(out: &mut [u8], num_texels: usize, data1: &[u8])
     requires { (4 * num_texels ≤ length out.old) × (2 * num_texels ≤ length data1.now) }
     ensures { out.new ≡ Paint.painted (Texels.format7 data1.now) num_texels out.old }
 {
-    let mut n: usize = 0;
-    while n < num_texels {
-        put_pixel(out, n, direct(u16::view(data1, 2 * n)));
-        n += 1;
-    }
+    put_texels(
+        out,
+        num_texels,
+        |n|
+            requires { 2 * n + 2 ≤ length data1.now }
+            ensures { result ≡ Texels.format7 data1.entry.now n }
+        { direct(u16::view(data1, 2 * n)) },
+    );
 }
 
 // What the low byte of a colour gives of its texel's bytes, as a number.
 fn low_word(b: u8) -> u32
     ensures { result ≡ Words.low_word b }
 {
-    let red = extend_5bit_to_8bit(b & 31) as u32;
-    let green = extend_5bit_to_8bit(b >> 5) as u32;
+    let red = u32::from(extend_5bit_to_8bit(b & 31));
+    let green = u32::from(extend_5bit_to_8bit(b >> 5));
     red + 256 * green
 }
 
@@ -36,46 +41,41 @@ fn low_word(b: u8) -> u32
 fn high_word(b: u8) -> u32
     ensures { result ≡ Words.high_word b }
 {
-    let green = 66 * ((b & 3) as u32);
-    let blue = extend_5bit_to_8bit((b >> 2) & 31) as u32;
-    let alpha = 255 * ((b >> 7) as u32);
+    let green = 66 * u32::from(b & 3);
+    let blue = u32::from(extend_5bit_to_8bit((b >> 2) & 31));
+    let alpha = 255 * u32::from(b >> 7);
     256 * green + 65536 * blue + 16777216 * alpha
 }
 
+// The words of all low bytes.
 fn low_words() -> [u32; 256]
     ensures { Paint.Tabled Words.low_word result }
 {
-    let mut words = [0u32; 256];
-    let mut i: usize = 0;
-    while i < 256 {
-        words[i] = low_word(i as u8);
-        i += 1;
-    }
-    words
+    array::from_fn(
+        |b|
+            requires { b < 256 }
+            ensures { result ≡ Words.low_word b }
+        { low_word(b as u8) },
+    )
 }
 
+// The words of all high bytes.
 fn high_words() -> [u32; 256]
     ensures { Paint.Tabled Words.high_word result }
 {
-    let mut words = [0u32; 256];
-    let mut i: usize = 0;
-    while i < 256 {
-        words[i] = high_word(i as u8);
-        i += 1;
-    }
-    words
+    array::from_fn(
+        |b|
+            requires { b < 256 }
+            ensures { result ≡ Words.high_word b }
+        { high_word(b as u8) },
+    )
 }
 
 // The bytes of a texel by their number.
 fn quad_of(word: u32) -> [u8; 4]
     ensures { result ≡ Words.quad_of word }
 {
-    [
-        (word & 255) as u8,
-        ((word >> 8) & 255) as u8,
-        ((word >> 16) & 255) as u8,
-        ((word >> 24) & 255) as u8,
-    ]
+    word.to_le_bytes()
 }
 
 // A texel of format 7 by the two bytes of its colour.
@@ -87,19 +87,21 @@ fn direct_by(lows: &[u32], highs: &[u32], lo: u8, hi: u8) -> [u8; 4]
 }
 
 // Direct colour texture, by a table for each byte of a colour.
+#[tactic(auto, using(crate::proofs::Words::number_two), unfolding(texels::specs::Texels::format7))]
 fn decode_large_format7(out: &mut [u8], num_texels: usize, data1: &[u8])
     requires { (4 * num_texels ≤ length out.old) × (2 * num_texels ≤ length data1.now) }
     ensures { out.new ≡ Paint.painted (Texels.format7 data1.now) num_texels out.old }
 {
     let lows = low_words();
     let highs = high_words();
-    let mut n: usize = 0;
-    while n < num_texels {
-        let lo = data1[2 * n];
-        let hi = data1[2 * n + 1];
-        put_pixel(out, n, direct_by(&lows, &highs, lo, hi));
-        n += 1;
-    }
+    put_texels(
+        out,
+        num_texels,
+        |n|
+            requires { (2 * n + 2 ≤ length data1.now) × Paint.Tabled Words.low_word lows × Paint.Tabled Words.high_word highs }
+            ensures { result ≡ Texels.format7 data1.entry.now n }
+        { direct_by(&lows, &highs, data1[2 * n], data1[2 * n + 1]) },
+    );
 }
 
 // Direct colour texture: 16-bit colours, no palette. The tables are worth their making from some thousand texels on.

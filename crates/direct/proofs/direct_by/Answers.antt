@@ -2,14 +2,8 @@
 use Prim.Native.Nat.{◌<◌}
 use mathlib.Core.Path.{◌∙◌}
 use native.Mathlib.Omega.{arith}
-use Rattle.direct.proofs.Words.{direct_word, words_fit}
+use Rattle.direct.proofs.Words.{direct_word}
 use Rattle.direct.proofs.direct_by.Goals as goal
-
-pub overflow_add-lows : goal.overflow_add-lows
-overflow_add-lows c =
-    let lo : c.args.lo < 256 = omega arith in
-    let hi : c.args.hi < 256 = omega arith in
-    record { fits = rw (c.requires.0.at _ lo, c.requires.1.at _ hi) (words_fit _ _ lo hi) }
 
 pub returns : goal.returns
 returns c =

@@ -1,14 +1,7 @@
--- `direct::low_words` meets its contract: the loop writes word after word. Assumes nothing.
-use native.Mathlib.Omega.{arith}
-use Rattle.direct.specs.Words.{low_word}
-use Rattle.paint.proofs.Tables.{tabled_none, tabled_more, tabled_all}
+-- `direct::low_words` meets its contract: each word is what the closure gives of its byte. Assumes nothing.
+use mathlib.Core.Path.{sym}
+use borrow.Author.Rules.{rules}
 use Rattle.direct.proofs.low_words.Goals as goal
 
-pub loop-i-init : goal.loop-i-init
-loop-i-init c = (omega arith, tabled_none low_word)
-
-pub loop-i-preserved : goal.loop-i-preserved
-loop-i-preserved c = (omega arith, tabled_more low_word c.loop-i.invariant.1 (omega arith) c.low_word.ensures)
-
 pub returns : goal.returns
-returns c = tabled_all low_word c.loop-i.invariant.1 (omega arith)
+returns c = record { long = sym c.from_fn.ensures.items.long; at = λ k h. let made = c.from_fn.ensures.items.at k 0 h in search rules }
