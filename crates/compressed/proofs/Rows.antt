@@ -253,6 +253,11 @@ mul_below n i k h = omega (arith, mul_comm n i, mul_comm n k, row_below n i k h)
 pub mul_next : (n i : ℕ) → n * (4 * (i + 1)) ≡ n * (4 * i) + 4 * n
 mul_next n i = omega (arith, mul_left_comm n 4 (i + 1), mul_left_comm n 4 i, mul-add n i 1)
 
+-- four rows behind 4i of them, and no more than all
+pub band_below : (width height i : ℕ) → i < height / 4 → 4 * (height / 4) ≡ height → 16 * (width * i) + 16 * width ≤ 4 * (width * height)
+band_below width height i h fours =
+    omega (arith, mul_below width i (height / 4) h, mul_left_comm width 4 (height / 4), ap (λ k. width * k) fours)
+
 -- a texel of the rows from row 4i on
 pub rows_texel_lem : (width : ℕ) (data1 data2 pal_block : List ℕ) (p i n : ℕ) → 0 < width
     → rows_texel width data1 data2 pal_block p i n ≡ compressed_texel width data1 data2 pal_block p (width * (4 * i) + n)

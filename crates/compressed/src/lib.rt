@@ -40,6 +40,7 @@ fn put_row(out: &mut [u8], n: usize, table: &[u8], row: u8)
 }
 
 // Writes block b, whose top left texel is texel x of the first row.
+#[tactic(auto, using(texels::proofs::Index::row_below, crate::proofs::Rows::block_none, crate::proofs::Rows::block_all))]
 fn put_block(out: &mut [u8], width: usize, x: usize, data1: &[u8], b: usize, table: &[u8])
     requires { Blocks.BlockFits width x b (length data1.now) (length table.now) (length out.old) }
     ensures { Blocks.BlockPut width x (λ i. Blocks.row_bytes table.now (Blocks.byte_of data1.now (4 * b + i))) out.old out.new }
@@ -71,6 +72,7 @@ fn put_blocks(
 }
 
 // Block-compressed texture.
+#[tactic(auto, using(crate::proofs::Rows::band_below))]
 pub fn decode_format5(
     out: &mut [u8],
     width: usize,

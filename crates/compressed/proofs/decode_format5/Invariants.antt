@@ -1,5 +1,4 @@
 -- `compressed::decode_format5` meets its contract: the loop writes four rows of texels after four. Assumes nothing.
--- the output has room for the next four rows
 use Prim.Native.Nat.{◌*◌, ◌≤◌}
 use Rattle.compressed.specs.Blocks.{compressed_texel}
 use Rattle.paint.proofs.Quads.{Painting}

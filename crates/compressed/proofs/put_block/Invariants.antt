@@ -1,5 +1,4 @@
 -- `compressed::put_block` meets its contract: the loop writes row after row of the block. Assumes nothing.
--- a row of the block is in one of the picture's first four rows
 use Prim.Native.Nat.{◌+◌, ◌*◌}
 use Rattle.compressed.specs.Blocks.{row_bytes, byte_of}
 use Rattle.compressed.proofs.Rows.{BlockPutting}

@@ -10,9 +10,6 @@ use Rattle.compressed.proofs.put_blocks.Goals as goal
 pub loop-i-init : goal.loop-i-init
 loop-i-init c = (refl, blocks_none _ _ _)
 
-pub put_block-requires : goal.put_block-requires
-put_block-requires c = record { within = omega arith; texels = omega arith; colors = omega arith; room = omega arith }
-
 pub loop-i-preserved : goal.loop-i-preserved
 loop-i-preserved c =
     let a = c.args in
@@ -28,9 +25,6 @@ loop-i-preserved c =
           (λ r m. length_row_bytes t _ (omega arith))
           kept,
     )
-
-pub shape_of-out : goal.shape_of-out
-shape_of-out c = c.loop-i.invariant.1.same
 
 pub returns : goal.returns
 returns c = blocks_all c.loop-i.invariant.1 (omega arith) (omega arith)

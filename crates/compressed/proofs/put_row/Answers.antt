@@ -11,24 +11,6 @@ use Rattle.compressed.proofs.put_row.Goals as goal
 mask : (n : ℕ) → bit_and n 3 ≡ n % 4
 mask n = and_mask n 2
 
-pub overflow_cast-row : goal.overflow_cast-row
-overflow_cast-row c = rw mask (omega arith)
-
-pub pixel_at-requires : goal.pixel_at-requires
-pixel_at-requires c = rw mask (omega arith)
-
-pub overflow_cast-row-2 : goal.overflow_cast-row-2
-overflow_cast-row-2 c = rw mask (omega arith)
-
-pub pixel_at-requires-2 : goal.pixel_at-requires-2
-pixel_at-requires-2 c = rw mask (omega arith)
-
-pub overflow_cast-row-3 : goal.overflow_cast-row-3
-overflow_cast-row-3 c = rw mask (omega arith)
-
-pub pixel_at-requires-3 : goal.pixel_at-requires-3
-pixel_at-requires-3 c = rw mask (omega arith)
-
 pub returns : goal.returns
 unfolding row_bytes
 returns c =
