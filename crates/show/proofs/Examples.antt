@@ -7,8 +7,7 @@ use Rattle.scripts.specs.Script.{run, outcome_of, bytes_at, ◌>>=◌, ◌>>◌}
 use Rattle.reading.specs.Tex.{read_header, read_tex}
 use Rattle.places.specs.Sources.{sources_of}
 use Rattle.pam.specs.Pam.{pam_of}
-use Rattle.show.specs.Show.{shown_of}
-use Rattle.show.specs.declared.Shown.TheVariants.{Refused}
+use Rattle.show.specs.Show.{Refused, shown_of}
 
 pub record Examples : Type 0 where
   -- an empty file: "Want is the length at which the failed take passes: 60"

@@ -1,5 +1,5 @@
 -- The laws of what is shown of a file. Assumes nothing.
-use Rattle.std.specs.Prelude.{Option}
+use Rattle.std.specs.Prelude.{Option, Result, Ok, Err, IsErrAnd}
 use Prim.Native.Nat.{ℕ, ◌≤◌}
 use mathlib.Core.Path.{◌≡◌, refl, sym, ap, ◌∙◌}
 use mathlib.Core.Bool.{Bool, true, false, cond}
@@ -19,9 +19,9 @@ use Rattle.scripts.specs.Script.{run}
 use Rattle.reading.specs.Tex.{read_tex}
 use Rattle.pam.specs.Pam.{pam_of}
 use Rattle.pam.proofs.Bounds.{pam_fits}
-use Rattle.show.specs.Show.{too_long, shown_as, shown_of, shown_output}
-use Rattle.show.specs.declared.Shown.{Shown}
-use Rattle.show.specs.declared.Shown.TheVariants.{Image, Refused, TooLong}
+use Rattle.show.specs.declared.Unshown.{Unshown}
+use Rattle.show.specs.declared.Unshown.TheVariants as unshown
+use Rattle.show.specs.Show.{Shown, Image, Refused, TooLong, shown, too_long, shown_as, shown_of, shown_output}
 
 -- what is answered where there is room for what was made
 module _ {made : Outcome (List ℕ)} {entry : List ℕ} (room : (image : List ℕ) → made ≡ result image → length image ≤ length entry)
@@ -78,10 +78,17 @@ module _ (file : List ℕ) (n : ℕ) (choice : Option ℕ) (entry : List ℕ) wh
     unfolding shown_of shown_output
     shows_image read w = (rw read (made_image fits w), rw read w.output)
 
-    pub shows_refused : (r : Refusal) {exit : List ℕ} → too_long file ≡ false
+    shows_refused : (r : Refusal) {exit : List ℕ} → too_long file ≡ false
         → Writes (pam_of n choice (run read_tex file)) entry (refusal_outcome r) exit → Shows (Refused (refusal_number r) (refusal_returned r)) exit
     unfolding shown_of shown_output
     shows_refused r read w = (rw read (made_refused fits r w), rw read w.output)
+
+    -- an answer that passes a refusal on
+    pub shows_passed : (r : Refusal) (answer : Result ℕ Unshown) {exit : List ℕ} → too_long file ≡ false
+        → Writes (pam_of n choice (run read_tex file)) entry (refusal_outcome r) exit → IsErrAnd answer (λ y. y ≡ unshown.Refused r)
+        → Shows (shown answer) exit
+    shows_passed r (Err y) read w e = rw e (shows_refused r read w)
+    shows_passed r (Ok len) read w e = absurd e
 
     -- An image is the part of the output that has the length that is answered, from the start on.
     pub shown_image : (len : ℕ) → shown_of file n choice ≡ Image len

@@ -3,7 +3,7 @@
 #![tactic(auto)]
 
 ghost use Rattle.std.specs.Prelude.{◌≡◌};
-ghost use Rattle.show.specs.Show.{too_long, shown, shown_of, shown_output};
+ghost use Rattle.show.specs.Show.{shown, shown_of, shown_output};
 ghost use Rattle.show.specs.declared.Unshown.TheVariants.{Refused};
 
 use errors::Refusal;
@@ -24,18 +24,11 @@ pub enum Unshown {
 }
 
 impl From<Refusal> for Unshown {
-    fn from(refusal: Refusal) -> Unshown
-        ensures { result ≡ Refused refusal }
-    {
+    ghost from_gives = { λ refusal unshown. unshown ≡ Refused refusal };
+
+    fn from(refusal: Refusal) -> Unshown {
         Unshown::Refused(refusal)
     }
-}
-
-// Whether the file is too long to be read.
-fn is_too_long(file: &[u8]) -> bool
-    ensures { result ≡ too_long file.now }
-{
-    MAX_BLOCK < file.len()
 }
 
 // Writes the picture of texture n with the chosen palette as a PAM image to an output that has room for every image. A file that is refused
@@ -49,7 +42,7 @@ pub fn show(
     ensures value { shown result ≡ shown_of file.now n choice }
     ensures out_after { out.new ≡ shown_output file.now n choice out.old }
 {
-    if is_too_long(file) {
+    if MAX_BLOCK < file.len() {
         return Err(Unshown::TooLong);
     }
     Ok(pam(file, n, choice, out)?)
