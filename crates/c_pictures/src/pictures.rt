@@ -3,7 +3,7 @@ ghost use Rattle.std.specs.Prelude.{◌≡◌};
 ghost use Rattle.output.specs.Output.{write_outcome, write_output};
 ghost use Rattle.told.specs.Told as Told;
 
-use decode::decode_texture::decode_texture;
+use decode::decode_texture::{Texture, decode_texture};
 use decode::picture::picture;
 use nds::texture_params::TextureParams;
 use told::{choice_of, tell_count, tell_len};
@@ -24,11 +24,14 @@ pub extern "C" fn rasclanya_decode_texture(
     ensures out_after { out.new ≡ write_output (Told.decoding word data1.now data2.now has_palette palette_off pal.now) out.old }
     ensures len_after { len.new ≡ Told.left len.old Told.itself (write_outcome (Told.decoding word data1.now data2.now has_palette palette_off pal.now) out.old) }
 {
-    let palette = choice_of(has_palette, palette_off);
-    tell_len(
-        decode_texture(TextureParams(word), data1, data2, palette, pal, out),
-        len,
-    )
+    let texture = Texture {
+        params: TextureParams(word),
+        data1,
+        data2,
+        palette: choice_of(has_palette, palette_off),
+        pal_block: pal,
+    };
+    tell_len(decode_texture(texture, out), len)
 }
 
 // Reads the block and decodes its texture n, with a palette by its number.

@@ -21,19 +21,79 @@ fn num_texels(params: TextureParams) -> usize
     (params.width() * params.height()) as usize
 }
 
-// Whether the texture's format needs a palette that was not chosen.
-#[tactic(auto, unfolding(nds::specs::Formats::desc))]
-fn lacks_palette(params: TextureParams, palette: Option<u32>) -> bool
-    ensures { result ≡ Pictures.lacks_palette params.0 palette }
-{
-    palette.is_none() && params.format().desc().requires_palette
+// A texture to decode: its word and data, the offset of the palette that was chosen for it, if one was, and the palette block.
+#[derive(Clone, Copy)]
+pub struct Texture<'a> {
+    pub params: TextureParams,
+    pub data1: &'a [u8],
+    pub data2: &'a [u8],
+    pub palette: Option<u32>,
+    pub pal_block: &'a [u8],
 }
 
-// Whether the data are shorter than the texture's word says.
-fn lacks_data(params: TextureParams, len1: usize, len2: usize) -> bool
-    ensures { result ≡ Pictures.lacks_data params.0 len1 len2 }
-{
-    len1 < params.byte_len() || len2 < params.byte_len2()
+impl<'a> Texture<'a> {
+    // Whether the texture's format needs a palette that was not chosen.
+    #[tactic(auto, unfolding(nds::specs::Formats::desc))]
+    fn lacks_palette(self) -> bool
+        ensures { result ≡ Pictures.lacks_palette self.entry.params.0 self.entry.palette }
+    {
+        self.palette.is_none() && self.params.format().desc().requires_palette
+    }
+
+    // Whether the data are shorter than the texture's word says.
+    fn lacks_data(self) -> bool
+        ensures { result ≡ Pictures.lacks_data self.entry.params.0 (length self.entry.data1.now) (length self.entry.data2.now) }
+    {
+        self.data1.len() < self.params.byte_len() || self.data2.len() < self.params.byte_len2()
+    }
+
+    // Whether the texture can be decoded, to an output of room bytes.
+    #[tactic(auto, using(crate::proofs::Pictures::checks))]
+    fn check(self, room: usize) -> Result<(), Refusal>
+        ensures { result_outcome result ≡ Checks.checked self.entry.params.0 (length self.entry.data1.now) (length self.entry.data2.now) self.entry.palette room }
+    {
+        if self.lacks_palette() {
+            return Err(Refusal::NoPalette);
+        }
+        if self.params.format().0 == 0 {
+            return Err(Refusal::NoTexels);
+        }
+        if self.lacks_data() {
+            return Err(Refusal::ShortData);
+        }
+        if lacks_room(self.params, room) {
+            return Err(Refusal::Output);
+        }
+        Ok(())
+    }
+
+    // Writes all texels, by the texture's format.
+    fn decode_format(self, out: &mut [u8])
+        requires { Checks.Decodable self.params.0 (length self.data1.now) (length self.data2.now) (length out.old) }
+        ensures { out.new ≡ Paint.painted (Pictures.texel (Pictures.sources self.entry.params.0 self.entry.data1.now self.entry.data2.now self.entry.palette self.entry.pal_block.now)) (Pictures.texel_count self.entry.params.0) out.old }
+    {
+        let params = self.params;
+        let data1 = self.data1;
+        let n = num_texels(params);
+        let palette = Palette {
+            block: self.pal_block,
+            off: self.palette.unwrap_or(0),
+        };
+        let clear0 = params.is_color0_transparent();
+        match params.format().0 {
+            1 => decode_format1(out, n, data1, palette),
+            2 => decode_format2(out, n, data1, palette, clear0),
+            3 => decode_format3(out, n, data1, palette, clear0),
+            4 => decode_format4(out, n, data1, palette, clear0),
+            5 => {
+                let width = params.width() as usize;
+                let height = params.height() as usize;
+                decode_format5(out, width, height, data1, self.data2, palette)
+            }
+            6 => decode_format6(out, n, data1, palette),
+            _ => decode_format7(out, n, data1),
+        }
+    }
 }
 
 // Whether the output is shorter than the picture.
@@ -43,78 +103,12 @@ fn lacks_room(params: TextureParams, room: usize) -> bool
     room < 4 * num_texels(params)
 }
 
-// Whether data of these lengths can be decoded, to an output of room bytes.
-#[tactic(auto, using(crate::proofs::Pictures::checks))]
-fn check(
-    params: TextureParams,
-    len1: usize,
-    len2: usize,
-    palette: Option<u32>,
-    room: usize,
-) -> Result<(), Refusal>
-    ensures { result_outcome result ≡ Checks.checked params.0 len1 len2 palette room }
-{
-    if lacks_palette(params, palette) {
-        return Err(Refusal::NoPalette);
-    }
-    if params.format().0 == 0 {
-        return Err(Refusal::NoTexels);
-    }
-    if lacks_data(params, len1, len2) {
-        return Err(Refusal::ShortData);
-    }
-    if lacks_room(params, room) {
-        return Err(Refusal::Output);
-    }
-    Ok(())
-}
-
-// Writes all texels, by the texture's format.
-fn decode_format(
-    out: &mut [u8],
-    params: TextureParams,
-    data1: &[u8],
-    data2: &[u8],
-    palette: Option<u32>,
-    pal: &[u8],
-)
-    requires { Checks.Decodable params.0 (length data1.now) (length data2.now) (length out.old) }
-    ensures { out.new ≡ Paint.painted (Pictures.texel (Pictures.sources params.0 data1.now data2.now palette pal.now)) (Pictures.texel_count params.0) out.old }
-{
-    let n = num_texels(params);
-    let palette = Palette {
-        block: pal,
-        off: palette.unwrap_or(0),
-    };
-    let clear0 = params.is_color0_transparent();
-    match params.format().0 {
-        1 => decode_format1(out, n, data1, palette),
-        2 => decode_format2(out, n, data1, palette, clear0),
-        3 => decode_format3(out, n, data1, palette, clear0),
-        4 => decode_format4(out, n, data1, palette, clear0),
-        5 => {
-            let width = params.width() as usize;
-            let height = params.height() as usize;
-            decode_format5(out, width, height, data1, data2, palette)
-        }
-        6 => decode_format6(out, n, data1, palette),
-        _ => decode_format7(out, n, data1),
-    }
-}
-
 // Decodes a texture, with a palette where its format needs one, and returns the picture's length in bytes.
-pub fn decode_texture(
-    params: TextureParams,
-    data1: &[u8],
-    data2: &[u8],
-    palette: Option<u32>,
-    pal: &[u8],
-    out: &mut [u8],
-) -> Result<usize, Refusal>
-    ensures { Writes (Pictures.decoded (Pictures.sources params.0 data1.now data2.now palette pal.now)) out.old (result_outcome result) out.new }
+pub fn decode_texture(texture: Texture, out: &mut [u8]) -> Result<usize, Refusal>
+    ensures { Writes (Pictures.decoded (Pictures.sources texture.entry.params.0 texture.entry.data1.now texture.entry.data2.now texture.entry.palette texture.entry.pal_block.now)) out.old (result_outcome result) out.new }
 {
-    let len = 4 * num_texels(params);
-    check(params, data1.len(), data2.len(), palette, out.len())?;
-    decode_format(out, params, data1, data2, palette, pal);
+    let len = 4 * num_texels(texture.params);
+    texture.check(out.len())?;
+    texture.decode_format(out);
     Ok(len)
 }

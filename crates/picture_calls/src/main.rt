@@ -20,7 +20,7 @@
 #![tactic(auto)]
 
 use cases::{Case, field, fill};
-use decode::decode_texture::decode_texture;
+use decode::decode_texture::{Texture, decode_texture};
 use decode::picture::picture;
 use errors::Refusal;
 use nds::texture_params::TextureParams;
@@ -30,13 +30,7 @@ use told::choice_of;
 
 // What a case asks for.
 enum Asked<'a> {
-    Direct {
-        params: TextureParams,
-        data1: &'a [u8],
-        data2: &'a [u8],
-        palette: Option<u32>,
-        pal_block: &'a [u8],
-    },
+    Direct(Texture<'a>),
     FromBlock {
         block: &'a [u8],
         n: usize,
@@ -49,13 +43,13 @@ impl<'a> Asked<'a> {
     fn of(case: Case<'a>) -> Asked<'a> {
         let palette = choice_of(case.field(16), case.field(20));
         if case.field(0) == 0 {
-            Asked::Direct {
+            Asked::Direct(Texture {
                 params: TextureParams(case.field(12)),
                 data1: case.named(28),
                 data2: case.named(36),
                 palette,
                 pal_block: case.named(44),
-            }
+            })
         } else {
             Asked::FromBlock {
                 block: case.named(28),
@@ -68,13 +62,7 @@ impl<'a> Asked<'a> {
     // What the call that is asked for answers.
     fn answer(self, out: &mut [u8]) -> Result<usize, Refusal> {
         match self {
-            Asked::Direct {
-                params,
-                data1,
-                data2,
-                palette,
-                pal_block,
-            } => decode_texture(params, data1, data2, palette, pal_block, out),
+            Asked::Direct(texture) => decode_texture(texture, out),
             Asked::FromBlock { block, n, choice } => picture(block, n, choice, out),
         }
     }

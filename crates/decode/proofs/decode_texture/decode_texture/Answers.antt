@@ -12,6 +12,6 @@ decode_format-requires c = (ready_if _ _ _ _ _ c.in_ok-check.ensures).decodable
 
 pub returns : goal.returns
 returns c =
-    let a = c.args in
-    let passed : Ready a.params.0 (length a.data1.now) (length a.data2.now) a.palette (length a.out.now) = ready_if _ _ _ _ _ c.in_ok-check.ensures in
+    let t = c.args.texture in
+    let passed : Ready t.params.0 (length t.data1.now) (length t.data2.now) t.palette (length c.args.out.now) = ready_if _ _ _ _ _ c.in_ok-check.ensures in
     rw (c.num_texels-len.ensures.0, c.decode_format.ensures) (writes_decoded _ _ passed.is passed.decodable.room)

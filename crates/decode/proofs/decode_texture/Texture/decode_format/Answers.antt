@@ -1,8 +1,8 @@
--- `decode::decode_texture::decode_format` meets its contract: the texels are those of the format. Assumes nothing.
+-- `decode::decode_texture::Texture::decode_format` meets its contract: the texels are those of the format. Assumes nothing.
 use mathlib.Core.Path.{refl, ◌∙◌}
 use native.Mathlib.Omega.{arith}
 use Rattle.decode.proofs.Pictures.{indexed_fits, direct_fits, picture_fits, painted_by}
-use Rattle.decode.proofs.decode_texture.decode_format.Goals as goal
+use Rattle.decode.proofs.decode_texture.Texture.decode_format.Goals as goal
 
 pub decode_format1-requires : goal.decode_format1-requires
 decode_format1-requires c = indexed_fits c.requires 1 c.num_texels-n.ensures (omega (arith, c.format.ensures)) (omega arith) (omega arith)
