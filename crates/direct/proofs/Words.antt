@@ -1,5 +1,5 @@
 -- The laws of a texel of format 7 by the two bytes of its colour. Assumes nothing.
-use Prim.Native.Nat.{ℕ, ◌+◌, ◌*◌, ◌/◌, ◌%◌, ◌^◌, ◌≤◌, ◌<◌}
+use Prim.Native.Nat.{ℕ, ◌+◌, ◌*◌, ◌/◌, ◌%◌, ◌≤◌, ◌<◌}
 use mathlib.Core.Path.{◌≡◌, refl, ap, ◌∙◌}
 use mathlib.Core.Bool.{Bool, true, false}
 use mathlib.Core.List.{List, [], ◌∷◌}
@@ -41,9 +41,6 @@ quad_bytes r g b a hr hg hb ha =
 
 widen_small : (v : ℕ) → v < 32 → widen v < 256
 widen_small v h = omega arith
-
-widen_three : (v : ℕ) → v < 8 → widen v ≤ 57
-widen_three v h = omega arith
 
 -- a level of 5 bits by its lower three bits and its upper two
 widen_parts : (l u : ℕ) → l < 8 → widen l + 66 * u ≡ widen (l + 8 * u)
@@ -92,16 +89,6 @@ module _ (lo hi : ℕ) (low : lo < 256) (high : hi < 256) where
       (widen_small _ (omega arith))
       (omega arith)
       ∙ rw (widen_parts l u below, widen_bit (hi / 128) (omega arith), red_is, green_is, blue_is, alpha_is))
-
-  -- and it has 32 bits
-  low_small : low_word lo ≤ 14847
-  low_small = omega (arith, widen_small (lo % 32) (omega arith), widen_three (lo / 32) (omega arith))
-
-  high_small : high_word hi ≤ 4294952448
-  high_small = omega (arith, widen_small (hi / 4 % 32) (omega arith))
-
-  pub words_fit : low_word lo + high_word hi < 2 ^ 32
-  words_fit = omega (arith, low_small, high_small)
 
 -- a number of two bytes
 pub number_two : (p : ℕ) (b : List ℕ) → p + 2 ≤ length b → get_or b p 0 + 256 * get_or b (p + 1) 0 ≡ number_at 2 p b

@@ -28,10 +28,6 @@ pub record Tabled (rule : ℕ → ℕ) (table : List ℕ) : Type 0 where
   pub long : 256 ≡ length table
   pub at : (k : ℕ) → k < 256 → get_or table k 0 ≡ rule k
 
--- The rule of the bytes themselves.
-abbrev pub itself : ℕ → ℕ
-itself b = b
-
 pub record IndexedFits (bits count length1 output : ℕ) : Type 0 where
   pub some : 0 < bits
   pub byte : bits ≤ 8

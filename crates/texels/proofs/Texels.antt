@@ -3,25 +3,16 @@ use Prim.Native.Nat.{ℕ, suc, ◌+◌, ◌-◌, ◌*◌, ◌/◌, ◌%◌, ◌^
 use mathlib.Core.Path.{◌≡◌, refl, ap, ◌∙◌}
 use mathlib.Core.Bool.{Bool}
 use mathlib.Core.List.{List, [], ◌∷◌}
-use native.Mathlib.Nat.{mod-eq_of_lt, mul_comm}
 use native.Mathlib.Omega.{arith}
 use lib.ListN.{length, take, drop, get_or, set}
 use lib.Seq.{sets, drop-cons, take_all}
-use lib.Bits.{bit_and, bit_or, and_mask, or_shifted}
+use lib.Bits.{bit_and, and_mask}
 use borrow.Author.Count.{below_none, below_more}
 use Rattle.texels.specs.Texels.{pixel, texel_bits, format1, indexed, formats2to4, opaque, mix, mode_color, block_color, format5, format6, format7}
 
 -- by cases, below four
 pub below_four : (P : ℕ → Type 0) → P 0 → P 1 → P 2 → P 3 → (k : ℕ) → k < 4 → P k
 below_four P p0 p1 p2 p3 = below_more P 3 (below_more P 2 (below_more P 1 (below_more P 0 (below_none P) p0) p1) p2) p3
-
--- a level that a mask takes out
-pub level_bits : (n : ℕ) → bit_and n 31 ≡ n % 2 ^ 5
-level_bits n = and_mask n 5
-
--- a level, shifted left by k, with its high bits below: a widening
-pub shift_or : (x k j : ℕ) → x * 2 ^ k < 2 ^ 8 → x / 2 ^ j < 2 ^ k → bit_or (x * 2 ^ k % 2 ^ 8) (x / 2 ^ j) ≡ 2 ^ k * x + x / 2 ^ j
-shift_or x k j h l = rw (mod-eq_of_lt h, mul_comm (2 ^ k) x) (or_shifted x k (x / 2 ^ j) l)
 
 -- four bytes of a list
 pub four_at : (l : List ℕ) (k : ℕ) → k + 4 ≤ length l
