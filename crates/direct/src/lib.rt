@@ -79,6 +79,7 @@ fn quad_of(word: u32) -> [u8; 4]
 }
 
 // A texel of format 7 by the two bytes of its colour.
+#[tactic(auto, using(crate::proofs::Words::direct_word))]
 fn direct_by(lows: &[u32], highs: &[u32], lo: u8, hi: u8) -> [u8; 4]
     requires { Paint.Tabled Words.low_word lows.now × Paint.Tabled Words.high_word highs.now }
     ensures { result ≡ Texels.direct (lo + 256 * hi) }

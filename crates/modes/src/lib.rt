@@ -39,6 +39,7 @@ fn mix(a: u32, b: u32, c1: u16, c2: u16) -> [u8; 4]
 }
 
 // A texel of a block by the block's mode: colours of the palette from the first on, mixes of two of them, and clear.
+#[tactic(auto, using(crate::proofs::Modes::mode0_plain, crate::proofs::Modes::mode1_plain, crate::proofs::Modes::mode2_plain, crate::proofs::Modes::mode3_plain, crate::proofs::Modes::mode1_mixed, crate::proofs::Modes::mode3_mixed, crate::proofs::Modes::mode3_turned), unfolding(texels::specs::Texels::mode_color))]
 fn mode_color(palette: Palette, first: u16, mode: u8, texel: u8) -> [u8; 4]
     requires { (first < 2 ^ 15) × (mode < 4) × (texel < 4) }
     ensures { result ≡ Texels.mode_color palette.entry.block.now palette.entry.off first mode texel }
@@ -53,6 +54,7 @@ fn mode_color(palette: Palette, first: u16, mode: u8, texel: u8) -> [u8; 4]
 }
 
 // A texel of a block by the block's extra.
+#[tactic(auto, using(crate::proofs::Modes::mode_same), unfolding(texels::specs::Texels::block_color))]
 pub fn block_color(palette: Palette, extra: u16, texel: u8) -> [u8; 4]
     requires { texel < 4 }
     ensures { result ≡ Texels.block_color palette.entry.block.now palette.entry.off extra texel }

@@ -11,6 +11,7 @@ ghost use Rattle.paint.specs.Paint as Paint;
 use texels::{Palette, a3_to_a5, extend_5bit_to_8bit, index_at, indexed};
 
 // Writes texel n of a picture.
+#[tactic(auto, using(texels::proofs::Texels::put_four))]
 pub fn put_pixel(out: &mut [u8], n: usize, pixel: [u8; 4])
     requires { 4 * n + 4 ≤ length out.old }
     ensures { out.new ≡ sets out.old (4 * n) pixel }
@@ -23,6 +24,7 @@ pub fn put_pixel(out: &mut [u8], n: usize, pixel: [u8; 4])
 }
 
 // Texel k of a table.
+#[tactic(auto, using(texels::proofs::Texels::four_at))]
 pub fn pixel_at(table: &[u8], k: usize) -> [u8; 4]
     requires { 4 * k + 4 ≤ length table.now }
     ensures { result ≡ take 4 (drop (4 * k) table.now) }
