@@ -8,8 +8,8 @@ ghost use Rattle.std.specs.Prelude.{◌≤◌, length};
 
 use arguments::{parse_choice, parse_number};
 use cursor::part_at;
-use refused::MAX_REFUSED;
 use errors::Refusal;
+use refused::MAX_REFUSED;
 use show::{MAX_BLOCK, MAX_PAM, Unshown};
 use std::env::FillError;
 use std::io::{ErrorKind, Read};
@@ -36,26 +36,21 @@ fn has_three_arguments(rt: &impl Env) -> bool {
     has_argument(rt, 3) && !has_argument(rt, 4)
 }
 
-// Puts an argument at the start of the text, and returns its length. An argument that is longer than the text is empty here, and so malformed.
-fn number_text(rt: &impl Env, i: usize, text: &mut [u8; MAX_ARGUMENT]) -> usize
-    ensures { result ≤ length text.new }
-{
-    match rt.arg(i, text) {
-        Ok(len) => len,
-        Err(_) => 0,
+// An argument, where it is there and fits the text.
+fn argument<'a>(rt: &impl Env, i: usize, text: &'a mut [u8; MAX_ARGUMENT]) -> Option<&'a [u8]> {
+    let len = rt.arg(i, text).ok()?;
+    Some(&text[..len])
+}
+
+// The texture's number and the chosen palette, where there are three arguments that say so. A longer text than is read is malformed.
+fn parse_arguments(rt: &impl Env) -> Option<(usize, Option<usize>)> {
+    if !has_three_arguments(rt) {
+        return None;
     }
-}
-
-fn texture_number(rt: &impl Env) -> Option<usize> {
     let mut text = [0; MAX_ARGUMENT];
-    let len = number_text(rt, 2, &mut text);
-    parse_number(&text[..len])
-}
-
-fn palette_choice(rt: &impl Env) -> Option<Option<usize>> {
-    let mut text = [0; MAX_ARGUMENT];
-    let len = number_text(rt, 3, &mut text);
-    parse_choice(&text[..len])
+    let n = parse_number(argument(rt, 2, &mut text)?)?;
+    let choice = parse_choice(argument(rt, 3, &mut text)?)?;
+    Some((n, choice))
 }
 
 // Reads until the input is full, the file ends or a read fails. One byte more than may be read is enough to know that the file is too long.
@@ -139,27 +134,21 @@ fn show_file<R: Env + Files + Print + Alloc>(
     n: usize,
     choice: Option<usize>,
 ) -> io::Result<()> {
-    let mut path = [0; MAX_ARGUMENT];
-    let Ok(len) = rt.arg(1, &mut path) else {
+    let mut text = [0; MAX_ARGUMENT];
+    let Some(path) = argument(rt, 1, &mut text) else {
         return tell_unopened(rt, err, b"FILE", io::Error::from_raw_os_error(ENAMETOOLONG));
     };
-    match open(rt, &path[..len]) {
+    match open(rt, path) {
         Ok(mut file) => show(rt, err, &mut file, n, choice),
-        Err(error) => tell_unopened(rt, err, &path[..len], error),
+        Err(error) => tell_unopened(rt, err, path, error),
     }
 }
 
 // A write that fails ends the program with its error.
 fn main(rt: HostRuntime) -> io::Result<()> {
     let err = rt.stderr();
-    if !has_three_arguments(&rt) {
-        return print_usage(&err);
+    match parse_arguments(&rt) {
+        Some((n, choice)) => show_file(&rt, &err, n, choice),
+        None => print_usage(&err),
     }
-    let Some(n) = texture_number(&rt) else {
-        return print_usage(&err);
-    };
-    let Some(choice) = palette_choice(&rt) else {
-        return print_usage(&err);
-    };
-    show_file(&rt, &err, n, choice)
 }
