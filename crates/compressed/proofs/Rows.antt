@@ -5,6 +5,7 @@ use mathlib.Core.Path.{◌≡◌, refl, sym, ap, ◌∙◌, subst}
 use mathlib.Core.List.{List, [], ◌∷◌, ◌++◌, append-nil, append_assoc}
 use native.Mathlib.Nat.{add-zero, add-suc, suc-mul, zero-mul, mul_comm, mul_left_comm, mul-add}
 use native.Mathlib.Nat.{mod-eq_of_lt, div-eq_of_lt, mul-add-mod_self_left, mul-add-mod_self_right, mul-add-div, mul-add-div_right}
+use native.Mathlib.Numerals.{add-one}
 use native.Mathlib.Omega.{arith}
 use lib.ListN.{length, take, drop, get_or, set, length-append, length-drop, take-append-drop, drop_of_length-le}
 use lib.Seq.{take-set-le, take-set-lt, drop-set-lt, drop-set-add, length-take-le, take_all, take-add, drop-drop, sets, length-sets, sets-eq}
@@ -95,21 +96,13 @@ module _ {width x : ℕ} {rows : ℕ → List ℕ} {i : ℕ} {entry now : List �
   pub block_all : 4 ≤ i → BlockPut width x rows entry now
   block_all h = record { row = λ r l. p.done r (omega arith); rest = p.rest }
 
--- four texels, stored one by one
-pub put_quads : (f : ℕ → List ℕ) (n : ℕ) (l : List ℕ) → Fours f 4
-    → sets (sets (sets (sets l (4 * n) (f 0)) (4 * (n + 1)) (f 1)) (4 * (n + 2)) (f 2)) (4 * (n + 3)) (f 3) ≡ sets l (4 * n) (pieces f 4)
+-- a texel stored behind the first c of a row's
+pub row_more : (f : ℕ → List ℕ) (n c : ℕ) (l : List ℕ) {now texel : List ℕ} → Fours f 4 → c < 4 → now ≡ sets l (4 * n) (pieces f c) → texel ≡ f c
+    → sets now (4 * (n + c)) texel ≡ sets l (4 * n) (pieces f (c + 1))
 unfolding pieces
-put_quads f n l fours =
-    let place : (k : ℕ) → k ≤ 4 → 4 * (n + k) ≡ 4 * n + length (pieces f k) =
-    λ k h. omega (arith, length_quads f k (λ i m. fours i (omega arith))) in
-    rw (
-      place 1 (omega arith),
-      sets_append l (4 * n) (f 0) (f 1),
-      place 2 (omega arith),
-      sets_append l (4 * n) (f 0 ++ f 1) (f 2),
-      place 3 (omega arith),
-      sets_append l (4 * n) (f 0 ++ f 1 ++ f 2) (f 3),
-    )
+row_more f n c l fours h w e =
+    let place : 4 * (n + c) ≡ 4 * n + length (pieces f c) = omega (arith, length_quads f c (λ i m. fours i (omega arith))) in
+    rw (w, e, place, add-one) (sets_append l (4 * n) (pieces f c) (f c))
 
 -- texel c of those that a row's byte chooses
 abbrev pub chosen : (table : List ℕ) (row c : ℕ) → List ℕ

@@ -33,10 +33,10 @@ fn put_row(out: &mut [u8], n: usize, table: &[u8], row: u8)
     requires { (4 * n + 16 ≤ length out.old) × (16 ≤ length table.now) }
     ensures { out.new ≡ sets out.old (4 * n) (Blocks.row_bytes table.now row) }
 {
-    put_pixel(out, n, pixel_at(table, (row & 3) as usize));
-    put_pixel(out, n + 1, pixel_at(table, ((row >> 2) & 3) as usize));
-    put_pixel(out, n + 2, pixel_at(table, ((row >> 4) & 3) as usize));
-    put_pixel(out, n + 3, pixel_at(table, (row >> 6) as usize));
+    for c in 0..4 {
+        let texel = (row >> (2 * c)) & 3;
+        put_pixel(out, n + c, pixel_at(table, texel as usize));
+    }
 }
 
 // Writes block b, whose top left texel is texel x of the first row.
