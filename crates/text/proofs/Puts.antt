@@ -2,7 +2,6 @@
 use Prim.Native.Nat.{ℕ, ◌+◌, ◌-◌}
 use mathlib.Core.Path.{◌≡◌, refl, ap, ◌∙◌}
 use mathlib.Core.List.{List, [], ◌++◌, append-nil, append_assoc}
-use native.Mathlib.Nat.{zero-add}
 use native.Mathlib.Omega.{arith}
 use lib.ListN.{length, take, drop, length-append, length-drop, length-take}
 use lib.Seq.{take_all, drop-drop, drop-length, sets, sets-eq, length-sets}
@@ -13,8 +12,7 @@ use Rattle.errors.specs.Refusal.{result_outcome}
 use Rattle.errors.specs.declared.Refusal.{Refusal}
 use Rattle.errors.proofs.Refusals.{refusal_not}
 use Rattle.output.specs.Output.{Writes}
-use Rattle.output.proofs.Outputs.{sets_append, outcome_there, output_there, text_there, outcome_short, output_short, Wrote, wrote_text, writes_fits, writes_whole}
-use Rattle.text.specs.Text.{decimal}
+use Rattle.output.proofs.Outputs.{sets_append, outcome_there, output_there, text_there, outcome_short, output_short, writes_whole}
 use Rattle.text.specs.Put.{Room, Put}
 
 -- a text that is copied over the output's part from the place on
@@ -51,14 +49,6 @@ module _ {text entry exit : List ℕ} {at end : ℕ} (p : Put text entry at exit
   pub room_next : (next more : List ℕ) → Room (text ++ (next ++ more)) entry at → Room next exit end
   room_next next more r = room_first next more (room_then r)
 
--- a number that has another name
-module _ {n m : ℕ} (same : n ≡ m) (end : List ℕ) {entry : List ℕ} {at : ℕ} where
-  pub room_number : Room (decimal m ++ end) entry at → Room (decimal n ++ end) entry at
-  room_number r = rw same r
-
-  pub put_number : {exit : List ℕ} {last : ℕ} → Put (decimal n ++ end) entry at exit last → Put (decimal m ++ end) entry at exit last
-  put_number p = rw same at p
-
 -- a text that a call wrote to the output's part from the place on
 pub record PartWrote (text entry : List ℕ) (at : ℕ) (answer : Outcome ℕ) (part : List ℕ) : Type 0 where
   pub outcome : answer ≡ result (length text)
@@ -87,18 +77,3 @@ module _ {text entry : List ℕ} {at : ℕ} (answer : Result ℕ Refusal) {part 
 
   pub part_put : {len : ℕ} → answer ≡ Ok len → Put text entry at (put_mid at (length entry - at) entry part) (at + len)
   part_put e = let wrote = part_wrote text entry at r w in record { output = wrote.output; behind = ap (λ (n : ℕ). at + n) (cc (rw e at wrote.outcome)) }
-
--- a text at the start of the output
-module _ {text entry exit : List ℕ} {end : ℕ} (r : Room text entry 0) (p : Put text entry 0 exit end) where
-  wrote : Wrote text entry end exit
-  wrote = record {
-    fits = omega (arith, r.fits);
-    ends = p.behind ∙ rw zero-add;
-    holds = p.output ∙ sets-eq text entry 0 r.fits ∙ rw zero-add;
-  }
-
-  pub put_writes : Writes (result text) entry (result end) exit
-  put_writes = writes_fits wrote
-
-  pub put_text : take end exit ≡ text
-  put_text = wrote_text wrote
