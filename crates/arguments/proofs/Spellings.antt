@@ -87,7 +87,7 @@ digits_behind (b ∷ first) later e l = go (is_digit b) refl (λ d. digits_behin
   where
     go : (t : Bool) → is_digit b ≡ t → (all_digits first ≡ true → all_digits (first ++ later) ≡ true) → (is_digit b && all_digits (first ++ later)) ≡ true
     go true q rest = rw q (rest (rw q at e))
-    go false q rest = let z : ◌≡◌ {A = ℕ} 0 1 = cc (rw q at e) in absurd (omega arith)
+    go false q rest = absurd (cc (rw q at e))
 
 last_digit : (n : ℕ) → all_digits ((48 + n % 10) ∷ []) ≡ true
 unfolding all_digits

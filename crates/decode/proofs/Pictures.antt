@@ -97,7 +97,7 @@ module _ (w length1 length2 : ℕ) (palette : Option ℕ) (room : ℕ) where
       refl refl refl refl refl
     where
       no : {A : Type 0} {n v : ℕ} → ◌≡◌ {A = Outcome (Unit {0})} (result tt) (refusal n v) → A
-      no q = let z : ◌≡◌ {A = ℕ} 0 1 = cc in absurd (omega arith)
+      no q = absurd (cc)
 
       go : (l f d s r : Bool) → lacks_palette w palette ≡ l → eqb (format w) 0 ≡ f → ltb length1 (data_length w) ≡ d
           → ltb length2 (second_length w) ≡ s → lacks_room w room ≡ r → Ready

@@ -1,7 +1,6 @@
 -- The laws of a refusal's outcome. Assumes nothing.
 use Prim.Native.Nat.{ℕ}
 use mathlib.Core.Path.{◌≡◌, ap}
-use native.Mathlib.Omega.{arith}
 use Rattle.std.specs.Prelude.{Result, Ok, Err, IsErrAnd}
 use Rattle.util.specs.Outcome.{Outcome, result, refusal}
 use Rattle.errors.specs.Refusal.{refusal_outcome, result_outcome}
@@ -9,7 +8,7 @@ use Rattle.errors.specs.declared.Refusal.{Refusal}
 
 -- a refusal in the code is never a result, and is the same whatever would have been answered
 pub refusal_not : {A : Type 0} {a : A} (r : Refusal) → refusal_outcome r ≡ result a → ⊥
-refusal_not r e = let z : ◌≡◌ {A = ℕ} 0 1 = cc in omega arith
+refusal_not r e = cc
 
 pub refusal_any : {A B : Type 0} {k v : ℕ} (r : Refusal)
     → ◌≡◌ {A = Outcome A} (refusal_outcome r) (refusal k v) → ◌≡◌ {A = Outcome B} (refusal_outcome r) (refusal k v)

@@ -2,7 +2,6 @@
 use Prim.Native.Nat.{ℕ}
 use mathlib.Core.Path.{◌≡◌, refl, sym, ap, ◌∙◌}
 use mathlib.Core.Bool.{Bool, true, false, cond}
-use native.Mathlib.Omega.{arith}
 use mathlib.Core.List.{List, ◌++◌}
 use lib.ListN.{length}
 use lib.Dec.{ltb}
@@ -33,7 +32,7 @@ module _ (b : List ℕ) where
     where
       go : (t : Bool) → ltb 65536 (length b) ≡ t → result l ≡ cond t (refusal 13 0) (layout_answer b (run read_tex b))
           → Found b (result l) (layout_answer b (run read_tex b))
-      go true q e = let z : ◌≡◌ {A = ℕ} 0 1 = cc in absurd (omega arith)
+      go true q e = absurd (cc)
       go false q e = record { read = q; is = e }
 
   -- the layout that is found is the block's

@@ -4,7 +4,6 @@ use mathlib.Core.Path.{◌≡◌, refl, sym, ap, ◌∙◌, subst}
 use mathlib.Core.Bool.{Bool, true, false}
 use mathlib.Core.List.{List, [], ◌∷◌}
 use native.Mathlib.Nat.{le_of_suc-le-suc, not-suc-le-zero}
-use native.Mathlib.Omega.{arith}
 use lib.ListN.{length, get_or, take}
 use lib.Dec.{ltb}
 use borrow.Author.Tests.{ltb-true, ltb-false, lt-ltb, le-ltb}
@@ -46,7 +45,7 @@ entry_absent : {A B C : Type 0} (k : Kind) (f : A → B) (g : A → C) (xs : Lis
     → entry k f xs n ≡ refusal number returned → entry k g xs n ≡ refusal number returned
 unfolding entry
 entry_absent k f g [] n e = cc
-entry_absent k f g (x ∷ xs) zero e = let z : ◌≡◌ {A = ℕ} 0 1 = cc in absurd (omega arith)
+entry_absent k f g (x ∷ xs) zero e = absurd (cc)
 entry_absent k f g (x ∷ xs) (suc n) e = entry_absent k f g xs n e
 
 -- 01, "When a call is declined": "A declined data part is empty, and the record call for that number names the refusal." The palette block
@@ -63,7 +62,7 @@ pub declined_pal_block : (a : Answer Contents) {number returned : ℕ} → readi
 unfolding reading_of pal_block_of outcome_of
 declined_pal_block (short w) e = refl
 declined_pal_block (fault found) e = refl
-declined_pal_block (whole c) e = let z : ◌≡◌ {A = ℕ} 0 1 = cc in absurd (omega arith)
+declined_pal_block (whole c) e = absurd (cc)
 
 -- a layout that was found: the reading finished, and its list has the entry
 pub record Found (k : Kind) (n : ℕ) (b : List ℕ) (a : Answer Contents) (l : Layout) : Type 0 where
@@ -74,13 +73,13 @@ pub record Found (k : Kind) (n : ℕ) (b : List ℕ) (a : Answer Contents) (l : 
 
 pub found : (k : Kind) (n : ℕ) (b : List ℕ) (a : Answer Contents) {l : Layout} → result l ≡ layout_with k n b a → Found k n b a l
 unfolding layout_with outcome_of
-found k n b (short w) e = let z : ◌≡◌ {A = ℕ} 0 1 = cc in absurd (omega arith)
-found k n b (fault w) e = let z : ◌≡◌ {A = ℕ} 0 1 = cc in absurd (omega arith)
+found k n b (short w) e = absurd (cc)
+found k n b (fault w) e = absurd (cc)
 found k n b (whole c) {l} e = go (ltb n (count_of k (layout_of b c))) refl
   where
     go : (t : Bool) → ltb n (count_of k (layout_of b c)) ≡ t → Found k n b (whole c) l
     go true q = record { contents = c; is = refl; laid = cc (rw q at e); below = ltb-true _ _ q }
-    go false q = let z : ◌≡◌ {A = ℕ} 0 1 = cc (rw q at e) in absurd (omega arith)
+    go false q = absurd (cc (rw q at e))
 
 -- a finished reading, as a layout and as counts
 module _ (b : List ℕ) {a : Answer Contents} {c : Contents} {l : Layout} (is : a ≡ whole c) (laid : l ≡ layout_of b c) where

@@ -120,7 +120,7 @@ refused_keeps {made = refusal n r} w = w.output
 refused_keeps {made = result bytes} {entry} {exit} w = go (leb (length bytes) (length entry)) refl
   where
     go : (t : Bool) → leb (length bytes) (length entry) ≡ t → exit ≡ entry
-    go true e = let z : ◌≡◌ {A = ℕ} 0 1 = cc (rw e at w.outcome) in absurd (omega arith)
+    go true e = absurd (cc (rw e at w.outcome))
     go false e = rw e at w.output
 
 -- the first n pieces are a part of all

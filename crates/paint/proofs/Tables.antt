@@ -1,12 +1,16 @@
 -- The laws of a palette written out as a table of texels, and of the texels that are taken from it. Assumes nothing.
-use Prim.Native.Nat.{ℕ, ◌*◌, ◌/◌, ◌%◌, ◌^◌, ◌≤◌, ◌<◌}
-use mathlib.Core.Path.{◌≡◌, refl, sym}
-use mathlib.Core.Bool.{Bool, false}
+use Prim.Native.Nat.{ℕ, ◌+◌, ◌*◌, ◌/◌, ◌%◌, ◌^◌, ◌≤◌, ◌<◌}
+use mathlib.Core.Path.{◌≡◌, refl, sym, ◌∙◌}
+use mathlib.Core.Bool.{Bool, true, false}
 use mathlib.Core.List.{List}
+use native.Mathlib.Nat.{not-suc-le-zero}
 use native.Mathlib.Omega.{arith}
-use lib.ListN.{length, take, drop, get_or}
+use lib.ListN.{length, take, drop, get_or, set, replicate, length-set}
+use lib.Seq.{get_or-set_same, get_or-set_other}
+use lib.Dec.{ltb}
+use borrow.Author.Tests.{ltb-true, ltb-false}
 use Rattle.texels.specs.Texels.{pixel, palette_color, texel_bits, alpha3, a3i5, indexed, formats2to4, a5i3}
-use Rattle.paint.specs.Paint.{painted, with_alpha, pixel_at, indexed_texel, IndexedFits}
+use Rattle.paint.specs.Paint.{painted, with_alpha, pixel_at, indexed_texel, Tabled, IndexedFits}
 use Rattle.texels.specs.Index.{IndexThere}
 use Rattle.paint.proofs.Quads.{Fours, painted_at, painted_room}
 use Rattle.texels.proofs.Index.{row_below, texel_lt}
@@ -40,6 +44,27 @@ index_there bits count length1 output n f h = record {
   small = omega arith;
   there = omega (arith, row_below bits n count h);
 }
+
+-- a table of what a rule gives for each byte, the first i of them
+pub record TabledTo (rule : ℕ → ℕ) (i : ℕ) (table : List ℕ) : Type 0 where
+  pub long : length table ≡ 256
+  pub at : (k : ℕ) → k < i → get_or table k 0 ≡ rule k
+
+module _ (rule : ℕ → ℕ) where
+  pub tabled_none : TabledTo rule 0 (replicate 256 0)
+  tabled_none = record { long = refl; at = λ k h. absurd (not-suc-le-zero h) }
+
+  pub tabled_more : {i x : ℕ} {table : List ℕ} → TabledTo rule i table → i < 256 → x ≡ rule i → TabledTo rule (i + 1) (set table i x)
+  tabled_more {i} {x} {table} t within is = record { long = length-set table i x ∙ t.long; at = λ k h. go k h (ltb k i) refl }
+    where
+      go : (k : ℕ) → k < i + 1 → (b : Bool) → ltb k i ≡ b → get_or (set table i x) k 0 ≡ rule k
+      go k h true e = get_or-set_other table i k x 0 (λ same. omega (arith, same, ltb-true k i e)) ∙ t.at k (ltb-true k i e)
+      go k h false e =
+          let same : k ≡ i = omega (arith, ltb-false k i e) in
+          rw same (get_or-set_same table i x 0 (omega (arith, t.long)) ∙ is)
+
+  pub tabled_all : {i : ℕ} {table : List ℕ} → TabledTo rule i table → 256 ≤ i → Tabled rule table
+  tabled_all t h = record { long = sym t.long; at = λ k l. t.at k (omega arith) }
 
 -- a texel that is its byte's, from a table of the texels of all bytes
 pub byte_texel : (texel : ℕ → List ℕ) (before : List ℕ) {table : List ℕ} → ((b : ℕ) → length (texel b) ≡ 4) → table ≡ painted texel 256 before

@@ -26,7 +26,7 @@ module _ (n : ℕ) (choice : Option ℕ) (a : Answer Contents) where
   pam_fits {image} e = go (sources_of n choice a) refl
     where
       no : {A : Type 0} {k v : ℕ} → ◌≡◌ {A = Outcome (List ℕ)} (refusal k v) (result image) → A
-      no q = let z : ◌≡◌ {A = ℕ} 0 1 = cc in absurd (omega arith)
+      no q = absurd (cc)
 
       made : (s : Sources) → result s ≡ sources_of n choice a → (o : Outcome (List ℕ)) → picture_of n choice a ≡ o → length image ≤ 4194375
       made s is (refusal k v) q = no (rw (← is, q) at e)

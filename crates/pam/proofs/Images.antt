@@ -51,7 +51,7 @@ decoded_length s {picture} e = go (ready s.word (length s.parts.data1) (length s
     go : (o : Outcome (Unit {0})) → ready s.word (length s.parts.data1) (length s.parts.data2) s.palette ≡ o
         → length picture ≡ picture_length s.word
     go (result tt) q = let same : picture_bytes s ≡ picture = cc (rw q at e) in ap length (sym same) ∙ length_picture s
-    go (refusal k v) q = let z : ◌≡◌ {A = ℕ} 0 1 = cc (rw q at e) in absurd (omega arith)
+    go (refusal k v) q = absurd (cc (rw q at e))
 
 texels_some : (w : ℕ) → 0 < texel_count w
 unfolding width height
@@ -108,7 +108,7 @@ module _ (header entry : List ℕ) (made : Outcome (List ℕ)) {at : ℕ} (is : 
   behind {len} w = go made refl
     where
       go : (o : Outcome (List ℕ)) → made ≡ o → Behind len
-      go (refusal k v) q = let z : ◌≡◌ {A = ℕ} 0 1 = cc (rw q at w.outcome) in absurd (omega arith)
+      go (refusal k v) q = absurd (cc (rw q at w.outcome))
       go (result picture) q = fit (leb (length picture) (length (mid_of at (length entry - at) entry))) refl
         where
           fit : (t : Bool) → leb (length picture) (length (mid_of at (length entry - at) entry)) ≡ t → Behind len
@@ -118,7 +118,7 @@ module _ (header entry : List ℕ) (made : Outcome (List ℕ)) {at : ℕ} (is : 
             counted = cc (rw (q, e) at w.outcome);
             fits = omega (arith, leb-true (length picture) _ e, part_length);
           }
-          fit false e = let z : ◌≡◌ {A = ℕ} 0 1 = cc (rw (q, e) at w.outcome) in absurd (omega arith)
+          fit false e = absurd (cc (rw (q, e) at w.outcome))
 
   -- a picture has some bytes, so that where it has room behind the header the header has its room before it
   module _ (some : (picture : List ℕ) → made ≡ result picture → 0 < length picture) {len : ℕ} {part : List ℕ}

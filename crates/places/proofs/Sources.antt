@@ -4,7 +4,6 @@ use Prim.Native.Nat.{ℕ, ◌+◌, ◌≤◌, ◌<◌}
 use mathlib.Core.Path.{◌≡◌, refl, sym, ap, ◌∙◌}
 use mathlib.Core.Bool.{Bool, true, false}
 use mathlib.Core.List.{List}
-use native.Mathlib.Omega.{arith}
 use lib.ListN.{length, get_or, take}
 use lib.Dec.{ltb}
 use borrow.Author.Tests.{ltb-true, ltb-false}
@@ -114,7 +113,7 @@ module _ (n : ℕ) (choice : Option ℕ) (b : List ℕ) {c : Contents} (is : run
   sources_at_lem {places} e = go (chosen_of choice c.palettes) refl
     where
       go : (o : Outcome (Option ℕ)) → chosen_of choice c.palettes ≡ o → result (sources_at b places) ≡ sources_of n choice (run read_tex b)
-      go (refusal k v) q = let z : ◌≡◌ {A = ℕ} 0 1 = cc (rw (sources_by q) at e) in absurd (omega arith)
+      go (refusal k v) q = absurd (cc (rw (sources_by q) at e))
       go (result p) q =
           let same : places ≡ places_at header this.word p = cc (rw (sources_by q) at e) in
           rw (same, sources_by q, parts_at p)
@@ -170,7 +169,7 @@ unfolding places_of sources_of outcome_of ◌>>=◌
 located_sources n choice b {places} e = go (run read_tex b) refl
   where
     no : {A : Type 0} {k v : ℕ} → ◌≡◌ {A = Outcome Places} (result places) (refusal k v) → A
-    no q = let z : ◌≡◌ {A = ℕ} 0 1 = cc in absurd (omega arith)
+    no q = absurd (cc)
 
     go : (a : Answer Contents) → run read_tex b ≡ a → result (sources_at b places) ≡ sources_of n choice (run read_tex b)
     go (short w) q = no (rw q at e)
@@ -188,7 +187,7 @@ unfolding sources_of data1_of data2_of texture_entry outcome_of ◌>>=◌
 sources_data n choice a {s} e = go a refl
   where
     no : {A : Type 0} {k v : ℕ} → ◌≡◌ {A = Outcome Sources} (result s) (refusal k v) → A
-    no q = let z : ◌≡◌ {A = ℕ} 0 1 = cc in absurd (omega arith)
+    no q = absurd (cc)
 
     go : (x : Answer Contents) → a ≡ x → (s.parts.data1 ≡ data1_of n a) × (s.parts.data2 ≡ data2_of n a)
     go (short w) q = no (rw q at e)

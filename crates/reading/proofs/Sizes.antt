@@ -32,14 +32,14 @@ record Small {A : Type 0} (s : Script A) (b : List ℕ) : Type 0 where
 module _ {b : List ℕ} where
   small_done : {A : Type 0} {a : A} → Small (done a) b
   unfolding run
-  small_done = record { want = λ w e. let z : ◌≡◌ {A = ℕ} 0 1 = cc in absurd (omega arith) }
+  small_done = record { want = λ w e. absurd (cc) }
 
   small_bytes : (p n : ℕ) → p + n < 2 ^ 34 → Small (bytes_at p n) b
   unfolding run bytes_at
   small_bytes p n h = record { want = λ w e. go w e (leb (p + n) (length b)) refl }
     where
       go : (w : ℕ) → run (bytes_at p n) b ≡ short w → (t : Bool) → leb (p + n) (length b) ≡ t → w < 2 ^ 34
-      go w e true q = let z : ◌≡◌ {A = ℕ} 0 1 = cc (rw q at e) in absurd (omega arith)
+      go w e true q = absurd (cc (rw q at e))
       go w e false q = let same : p + n ≡ w = cc (rw q at e) in omega (arith, same, h)
 
   small_bind : {A B : Type 0} {s : Script A} {f : A → Script B} → Small s b → ((a : A) → run s b ≡ whole a → Small (f a) b) → Small (s >>= f) b
@@ -47,13 +47,13 @@ module _ {b : List ℕ} where
     where
       go : (w : ℕ) → and_then (run s b) (λ a. run (f a) b) ≡ short w → (x : Answer A) → run s b ≡ x → w < 2 ^ 34
       go w e (short v) q = let same : v ≡ w = cc (rw q at e) in first.want w (q ∙ ap short same)
-      go w e (fault v) q = let z : ◌≡◌ {A = ℕ} 0 1 = cc (rw q at e) in absurd (omega arith)
+      go w e (fault v) q = absurd (cc (rw q at e))
       go w e (whole a) q = (later a q).want w (rw q at e)
 
   small_expect : {B : Type 0} (test : Bool) (found : Fault) {rest : Script B} → Small rest b → Small (expect test found >> rest) b
   unfolding run expect ◌>>◌ ◌>>=◌
   small_expect true found h = h
-  small_expect false found h = record { want = λ w e. let z : ◌≡◌ {A = ℕ} 0 1 = cc in absurd (omega arith) }
+  small_expect false found h = record { want = λ w e. absurd (cc) }
 
   small_each : {A : Type 0} {f : ℕ → Script A} → ((i : ℕ) → Small (f i) b) → (i n : ℕ) → Small (each_from i n f) b
   unfolding each_from

@@ -88,8 +88,8 @@ module _ {A : Type 0} (p n : ℕ) (next : List ℕ → Script A) (b : List ℕ) 
 
 pub early : {A : Type 0} (s : Script A) (b : List ℕ) (m : ℕ) → m ≤ length b → Early s b m
 unfolding run ends records
-early (done a) b m h = same (λ w e. let z : ◌≡◌ {A = ℕ} 0 1 = cc in omega arith) refl refl
-early (refuse found) b m h = same (λ w e. let z : ◌≡◌ {A = ℕ} 0 1 = cc in omega arith) refl refl
+early (done a) b m h = same (λ w e. cc) refl refl
+early (refuse found) b m h = same (λ w e. cc) refl refl
 early (get p n next) b m h = go (leb (p + n) m) refl (early (next (take n (drop p b))) b m h)
   where
     go : (t : Bool) → leb (p + n) m ≡ t → Early (next (take n (drop p b))) b m → Early (get p n next) b m

@@ -47,8 +47,8 @@ module _ {A B : Type 0} (s : Script A) (f : A → Script B) (b : List ℕ) where
   both {end} e = go (run s b) refl
     where
       go : (x : Answer A) → run s b ≡ x → Both s f b end
-      go (short w) q = let z : ◌≡◌ {A = ℕ} 0 1 = cc (rw q at (sym (run_bind f b s) ∙ e)) in absurd (omega arith)
-      go (fault w) q = let z : ◌≡◌ {A = ℕ} 0 1 = cc (rw q at (sym (run_bind f b s) ∙ e)) in absurd (omega arith)
+      go (short w) q = absurd (cc (rw q at (sym (run_bind f b s) ∙ e)))
+      go (fault w) q = absurd (cc (rw q at (sym (run_bind f b s) ∙ e)))
       go (whole a) q = record { middle = a; first = q; second = rw q at (sym (run_bind f b s) ∙ e) }
 
 -- a take, and what comes next
@@ -64,8 +64,8 @@ module _ {A : Type 0} (p n : ℕ) (next : List ℕ → Script A) (b : List ℕ) 
 -- a run is short only of a length that the block does not have
 pub run_short : {A : Type 0} (s : Script A) (b : List ℕ) {w : ℕ} → run s b ≡ short w → length b < w
 unfolding run
-run_short (done a) b e = let z : ◌≡◌ {A = ℕ} 0 1 = cc in absurd (omega arith)
-run_short (refuse found) b e = let z : ◌≡◌ {A = ℕ} 0 1 = cc in absurd (omega arith)
+run_short (done a) b e = absurd (cc)
+run_short (refuse found) b e = absurd (cc)
 run_short (get p n next) b {w} e = go (leb (p + n) (length b)) refl (λ q. run_short (next (take n (drop p b))) b q)
   where
     go : (t : Bool) → leb (p + n) (length b) ≡ t → (run (next (take n (drop p b))) b ≡ short w → length b < w) → length b < w
@@ -92,7 +92,7 @@ module _ (p n : ℕ) (b : List ℕ) where
     where
       go : (t : Bool) → leb (p + n) (length b) ≡ t → Bytes bytes
       go true q = record { within = leb-true _ _ q; same = cc (rw q at e) }
-      go false q = let z : ◌≡◌ {A = ℕ} 0 1 = cc (rw q at e) in absurd (omega arith)
+      go false q = absurd (cc (rw q at e))
 
 -- a test, and then the rest
 module _ {B : Type 0} (test : Bool) (found : Fault) (rest : Script B) (b : List ℕ) where
@@ -109,7 +109,7 @@ module _ {B : Type 0} (test : Bool) (found : Fault) (rest : Script B) (b : List 
     where
       go : (t : Bool) → test ≡ t → test ≡ true
       go true q = q
-      go false q = let z : ◌≡◌ {A = ℕ} 0 1 = cc (sym (expect_failed q) ∙ e) in absurd (omega arith)
+      go false q = absurd (cc (sym (expect_failed q) ∙ e))
 
   pub expected : {end : B} → run (expect test found >> rest) b ≡ whole end → run rest b ≡ whole end
   expected e = sym (expect_met (expect_held e)) ∙ e
@@ -231,8 +231,8 @@ pub record Ended {A B : Type 0} (x : Answer A) (g : A → B) (r : B) : Type 0 wh
 
 pub ended : {A B : Type 0} (x : Answer A) (g : A → B) {r : B} → result r ≡ outcome_of x (λ a. result (g a)) → Ended x g r
 unfolding outcome_of
-ended (short w) g e = let z : ◌≡◌ {A = ℕ} 0 1 = cc in absurd (omega arith)
-ended (fault w) g e = let z : ◌≡◌ {A = ℕ} 0 1 = cc in absurd (omega arith)
+ended (short w) g e = absurd (cc)
+ended (fault w) g e = absurd (cc)
 ended (whole a) g e = record { end = a; is = refl; gives = cc }
 
 -- a refusal of x is y's, whatever either makes of its end

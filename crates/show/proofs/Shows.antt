@@ -31,7 +31,7 @@ module _ {made : Outcome (List ℕ)} {entry : List ℕ} (room : (image : List �
   made_image {len} w = go made refl
     where
       go : (o : Outcome (List ℕ)) → made ≡ o → Image len ≡ shown_as made
-      go (refusal k v) q = let z : ◌≡◌ {A = ℕ} 0 1 = cc (rw q at w.outcome) in absurd (omega arith)
+      go (refusal k v) q = absurd (cc (rw q at w.outcome))
       go (result image) q = rw q (cc (writes_whole image entry (room image q) (rw q at w)).0)
 
   made_refused : (r : Refusal) → Writes made entry (refusal_outcome r) exit → Refused (refusal_number r) (refusal_returned r) ≡ shown_as made
@@ -63,10 +63,10 @@ module _ (file : List ℕ) (n : ℕ) (choice : Option ℕ) (entry : List ℕ) wh
 
   -- A file that is refused leaves every byte of the output as it was, and so does one that is too long.
   pub shown_keeps : {number returned : ℕ} → shown_of file n choice ≡ Refused number returned → shown_output file n choice entry ≡ entry
-  shown_keeps e = keeps λ len q. let z : ◌≡◌ {A = ℕ} 0 1 = cc in omega arith
+  shown_keeps e = keeps λ len q. cc
 
   pub shown_keeps_long : shown_of file n choice ≡ TooLong → shown_output file n choice entry ≡ entry
-  shown_keeps_long e = keeps λ len q. let z : ◌≡◌ {A = ℕ} 0 1 = cc in omega arith
+  shown_keeps_long e = keeps λ len q. cc
 
   -- an output that has room for every image
   module _ (room : 4194375 ≤ length entry) where
@@ -98,8 +98,8 @@ module _ (file : List ℕ) (n : ℕ) (choice : Option ℕ) (entry : List ℕ) wh
       where
         go : (t : Bool) (o : Outcome (List ℕ)) → ((image : List ℕ) → o ≡ result image → length image ≤ length entry)
             → cond t TooLong (shown_as o) ≡ Image len → o ≡ result (taken_part 0 len (cond t entry (write_output o entry)))
-        go true o fits e = let z : ◌≡◌ {A = ℕ} 0 1 = cc in absurd (omega arith)
-        go false (refusal k v) fits e = let z : ◌≡◌ {A = ℕ} 0 1 = cc in absurd (omega arith)
+        go true o fits e = absurd (cc)
+        go false (refusal k v) fits e = absurd (cc)
         go false (result image) fits e =
             let same : len ≡ length image = cc in
             let there = le-leb _ _ (fits image refl) in
