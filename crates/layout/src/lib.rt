@@ -40,6 +40,7 @@ pub fn pal_block_len(header: Header) -> usize
 }
 
 // Where a texture's data, or a block-compressed texture's first data, begins.
+#[tactic(auto, unfolding(crate::specs::Positions::data_at))]
 pub fn data1_pos(header: Header, params: TextureParams) -> usize
     ensures { (result ≡ Positions.data_at header params.0) × (result < 2 ^ 33) }
 {
@@ -53,6 +54,7 @@ pub fn data1_pos(header: Header, params: TextureParams) -> usize
 }
 
 // Where a block-compressed texture's second data begins.
+#[tactic(auto, unfolding(crate::specs::Positions::second_at))]
 pub fn data2_pos(header: Header, params: TextureParams) -> usize
     ensures { (result ≡ Positions.second_at header params.0) × (result < 2 ^ 33) }
 {
@@ -61,6 +63,7 @@ pub fn data2_pos(header: Header, params: TextureParams) -> usize
 }
 
 // The word of texture n.
+#[tactic(auto, using(util::proofs::Numbers::number_in_part))]
 pub fn params_at(block: &[u8], pos: usize, count: usize, n: usize) -> TextureParams
     requires { (pos + list_length kinds.Texture count ≤ length block.now) × (n < count) }
     ensures { result.0 ≡ entry_number kinds.Texture 4 (list_at kinds.Texture pos count block.now) n }
@@ -69,6 +72,7 @@ pub fn params_at(block: &[u8], pos: usize, count: usize, n: usize) -> TexturePar
 }
 
 // The offset of palette n, in bytes.
+#[tactic(auto, using(util::proofs::Numbers::number_in_part))]
 pub fn off_at(block: &[u8], pos: usize, count: usize, n: usize) -> u32
     requires { (pos + list_length kinds.Palette count ≤ length block.now) × (n < count) }
     ensures { result ≡ 8 * entry_number kinds.Palette 2 (list_at kinds.Palette pos count block.now) n }

@@ -1,5 +1,5 @@
 -- The laws of `run` and `outcome_of`: what a script comes to, by its steps. Assumes nothing.
-use Prim.Native.Nat.{ℕ, zero, suc, ◌+◌, ◌≤◌, ◌<◌}
+use Prim.Native.Nat.{ℕ, zero, suc, ◌+◌, ◌^◌, ◌≤◌, ◌<◌}
 use mathlib.Core.Path.{◌≡◌, refl, sym, ap, ◌∙◌}
 use mathlib.Core.Bool.{Bool, true, false}
 use mathlib.Core.List.{List, [], ◌∷◌}
@@ -9,6 +9,9 @@ use lib.ListN.{length, take, drop, get_or}
 use lib.Dec.{leb}
 use borrow.Author.Tests.{le-leb, lt-leb, leb-true, leb-false}
 use Rattle.util.specs.Outcome.{Outcome, result, refusal}
+use Rattle.util.specs.Take.{length_of, take_of}
+use Rattle.util.specs.declared.cur.Needed.{Needed}
+use Rattle.util.proofs.Takes.{took, lacked, low_exact}
 use Rattle.errors.specs.Refusal.{Fault, fault_number, refusal_outcome}
 use Rattle.errors.specs.declared.Refusal.{Refusal}
 use Rattle.errors.proofs.Refusals.{refusal_not, refusal_any}
@@ -249,3 +252,14 @@ module _ {A B C D : Type 0} (x : Answer A) (y : Answer B) (follows : Follows x y
 -- a take that passed
 pub take_within : (p n : ℕ) (b : List ℕ) → result (tt {0}) ≡ outcome_of (run (bytes_at p n) b) (λ _. result (tt {0})) → p + n ≤ length b
 take_within p n b e = (bytes_whole p n b (ended (run (bytes_at p n) b) (λ _. tt {0}) e).is).within
+
+-- and a take by the answer of `take_at`
+module _ (p n : ℕ) (b : List ℕ) where
+  pub take_passed : {end : ℕ} → result end ≡ take_of (length b) p n (p + n) → result (tt {0}) ≡ outcome_of (run (bytes_at p n) b) (λ _. result (tt {0}))
+  take_passed e = whole_outcome _ (bytes_in p n b (took _ _ _ _ e).within)
+
+  pub take_missed : (needed : Needed) → p + n < 2 ^ 64 → refusal 1 (length_of needed) ≡ take_of (length b) p n (p + n)
+      → refusal 1 needed.low ≡ outcome_of (run (bytes_at p n) b) (λ _. result (tt {0}))
+  take_missed needed h e =
+      let l = lacked _ _ _ _ e in
+      ap (refusal 1) (low_exact needed (omega arith) ∙ l.ends) ∙ short_outcome _ (bytes_out p n b l.past)

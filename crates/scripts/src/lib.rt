@@ -10,6 +10,7 @@ use errors::Refusal;
 use util::cur::take_at;
 
 // Whether block holds n bytes at pos.
+#[tactic(auto, using(crate::proofs::Runs::take_passed, crate::proofs::Runs::take_missed))]
 pub fn take(block: &[u8], pos: usize, n: usize) -> Result<(), Refusal>
     requires { pos + n < 2 ^ 64 }
     ensures { result_outcome result ≡ passing (bytes_at pos n) block.now }
