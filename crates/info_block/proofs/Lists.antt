@@ -3,16 +3,21 @@ use Prim.Native.Nat.{ℕ, ◌+◌, ◌*◌, ◌^◌, ◌≤◌, ◌<◌}
 use mathlib.Core.Path.{◌≡◌, sym, ap, ◌∙◌, subst}
 use mathlib.Core.List.{List}
 use native.Mathlib.Omega.{arith}
-use lib.ListN.{length}
+use lib.ListN.{length, take, drop}
 use borrow.Author.Tests.{eq-eqb, ne_eqb}
 use Rattle.util.specs.Number.{number_at}
 use Rattle.util.specs.Outcome.{result}
 use Rattle.util.proofs.Numbers.{number_in_part}
-use Rattle.errors.specs.Refusal.{bad_dummy, bad_size}
+use Rattle.util.proofs.Parts.{part_of_part}
+use Rattle.errors.specs.Refusal.{bad_dummy, bad_size, refusal_outcome}
 use Rattle.errors.specs.declared.Kind.{Kind}
 use Rattle.errors.specs.declared.Kind.TheVariants.{Texture, Palette}
+use Rattle.errors.specs.declared.Refusal.{Refusal}
+use Rattle.errors.specs.declared.Refusal.TheVariants.{Dummy, DatumSize}
+use Rattle.errors.proofs.Refusals as refusals
 use Rattle.scripts.specs.Script.{fault, whole, run, outcome_of, bytes_at}
-use Rattle.info_block.specs.InfoBlock.{NameList, datum_bytes, size_at, list_length, list_at, whole_list, name_list}
+use Rattle.info_block.specs.InfoBlock.{NameList, datum_bytes, size_at, name_at, list_length, list_at, list_count, entry_name, whole_list, name_list}
+use Rattle.scripts.proofs.Runs.{take_within, whole_outcome, fault_outcome, refused}
 use Rattle.scripts.proofs.Runs.{onward, both, bytes_in, bytes_whole, expect_met, expect_failed, expected, ended, Follows, follows_bind}
 
 -- the data of a list of at most 255 entries are few
@@ -94,3 +99,54 @@ module _ (kind : Kind) (pos : ℕ) (b : List ℕ) where
   list_counted {n} e =
       let o = ended (run (name_list kind pos) b) (λ list. list.count) e in
       o.is ∙ ap whole ((name_listed o.is).is ∙ ap (λ (c : ℕ). list_at kind pos c b) (sym o.gives))
+
+-- a list by the size of a datum that the code has
+module _ (kind : Kind) (pos c : ℕ) (b : List ℕ) {size : ℕ} (sized : size ≡ datum_bytes kind) where
+  pub list_refused : (r : Refusal) → refusal_outcome r ≡ outcome_of (run (bytes_at pos (16 + 4 * c + size * c + 16 * c)) b) (λ _. result (tt {0}))
+      → refusal_outcome r ≡ list_count (whole_list kind pos c) b
+  list_refused r e = refused _ _ (list_follows kind pos c b (rw sized)) _ _ r e
+
+  module _ (within : pos + (16 + 4 * c + size * c + 16 * c) ≤ length b) where
+    there : pos + list_length kind c ≤ length b
+    there = rw sized at within
+
+    pub dummy_refused : (number_at 1 pos b ≡ 0 → ⊥) → refusal_outcome (Dummy kind) ≡ list_count (whole_list kind pos c) b
+    dummy_refused bad = fault_outcome _ (dummy_bad kind pos c b there bad)
+
+    pub size_refused : number_at 1 pos b ≡ 0 → (number_at 2 (pos + size_at c) b ≡ size → ⊥)
+        → refusal_outcome (DatumSize kind) ≡ list_count (whole_list kind pos c) b
+    size_refused zero bad = fault_outcome _ (size_bad kind pos c b there zero (λ e. bad (e ∙ sym sized)))
+
+    pub list_found : number_at 1 pos b ≡ 0 → number_at 2 (pos + size_at c) b ≡ size → result c ≡ list_count (whole_list kind pos c) b
+    list_found zero good = whole_outcome _ (list_passes kind pos c b there zero (good ∙ sized))
+
+-- and the whole reading of it
+module _ (kind : Kind) (pos : ℕ) (b : List ℕ) where
+  pub head_refused : (r : Refusal) → refusal_outcome r ≡ outcome_of (run (bytes_at pos 2) b) (λ _. result (tt {0}))
+      → refusal_outcome r ≡ list_count (name_list kind pos) b
+  head_refused r e = refused _ _ (head_follows kind pos b) _ _ r e
+
+  pub list_by_count : pos + 2 ≤ length b → list_count (whole_list kind pos (number_at 1 (pos + 1) b)) b ≡ list_count (name_list kind pos) b
+  list_by_count h = ap (λ x. outcome_of x (λ list. result list.count)) (sym (counted kind pos b h))
+
+-- for the functions that read lists
+pub ruleset reads = (
+  refusals.passed_on,
+  take_within,
+  data_small,
+  list_refused,
+  dummy_refused,
+  size_refused,
+  list_found,
+  head_refused,
+  list_by_count,
+)
+
+-- entry n of a list, as the code computes its place
+module _ (kind : Kind) (pos c n : ℕ) (b : List ℕ) {size : ℕ} (sized : size ≡ datum_bytes kind) (below : n < c)
+    (within : pos + list_length kind c ≤ length b) where
+  pub entry_within : pos + (16 + 4 * c + size * c + 16 * n) + 16 ≤ length b
+  entry_within = rw sized (omega arith)
+
+  pub entry_there : take 16 (drop (pos + (16 + 4 * c + size * c + 16 * n)) b) ≡ entry_name kind (list_at kind pos c b) n
+  entry_there = rw sized (sym (part_of_part (name_at kind c n) 16 pos (list_length kind c) b (omega arith)))

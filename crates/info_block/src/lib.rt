@@ -22,6 +22,7 @@ fn datum_size(kind: Kind) -> usize
 }
 
 // Reads the list of c entries at pos whole, and checks it.
+#[tactic(auto, using(crate::proofs::Lists::reads))]
 fn read_whole(block: &[u8], kind: Kind, pos: usize, c: usize) -> Result<usize, Refusal>
     requires { (pos < 2 ^ 32) × (c < 2 ^ 8) }
     ensures { result_outcome result ≡ InfoBlock.list_count (InfoBlock.whole_list kind pos c) block.now }
@@ -40,6 +41,7 @@ fn read_whole(block: &[u8], kind: Kind, pos: usize, c: usize) -> Result<usize, R
 }
 
 // Reads the list at pos: its count, then the whole list, then its dummy and its datum size. Answers with the count.
+#[tactic(auto, using(crate::proofs::Lists::reads))]
 pub fn read(block: &[u8], kind: Kind, pos: u32) -> Result<usize, Refusal>
     ensures { result_outcome result ≡ InfoBlock.list_count (InfoBlock.name_list kind pos) block.now }
 {
@@ -60,6 +62,7 @@ fn name_at(block: &[u8], pos: usize) -> Name
 }
 
 // The name of entry n of the list of c entries at pos.
+#[tactic(auto, using(crate::proofs::Lists::entry_within, crate::proofs::Lists::entry_there))]
 pub fn entry_name(block: &[u8], kind: Kind, pos: usize, c: usize, n: usize) -> Name
     requires { (pos + InfoBlock.list_length kind c ≤ length block.now) × (n < c) }
     ensures { result.0 ≡ InfoBlock.entry_name kind (InfoBlock.list_at kind pos c block.now) n }
