@@ -109,10 +109,23 @@ module _ (b : ℕ) where
       go false true = omega arith
       go false false = omega arith
 
+-- for the functions of one byte
+pub ruleset shows = (
+  display_control,
+  display_ascii,
+  display_two,
+  display_one,
+)
+
 flat_append : (f : ℕ → List ℕ) (xs ys : List ℕ) → flat_map f (xs ++ ys) ≡ flat_map f xs ++ flat_map f ys
 unfolding flat_map
 flat_append f [] ys = refl
 flat_append f (x ∷ xs) ys = rw (flat_append f xs ys, append_assoc)
+
+-- no bytes have no text
+pub flat_none : (f : ℕ → List ℕ) → length (flat_map f []) ≡ 0
+unfolding flat_map
+flat_none f = refl
 
 -- the texts of the first bytes
 module _ (xs : List ℕ) (i : ℕ) where
@@ -134,3 +147,15 @@ module _ (xs : List ℕ) (i : ℕ) where
       let e = rw flat_append at (ap (flat_map f) (take-append-drop (i + 1) (take n xs))) in
       let rest = simp (length-append, take-take (i + 1) n xs (omega arith)) at (ap length e) in
       omega arith
+
+-- the length of one text more
+pub display_longer : (xs : List ℕ) (i : ℕ) → i < length xs
+    → length (flat_map display_byte (take (i + 1) xs)) ≡ length (flat_map display_byte (take i xs)) + length (display_byte (get_or xs i 0))
+display_longer xs i h = rw (flat_more xs i display_byte h, length-append)
+
+-- for the function that adds up the lengths
+pub ruleset lengths = (
+  flat_none,
+  display_short,
+  display_longer,
+)

@@ -19,13 +19,11 @@ pub struct Name(pub [u8; 16]);
 fn safe_byte(b: u8) -> u8
     ensures { result ≡ Text.safe_byte b }
 {
-    match b {
-        b'0'..=b'9' | b'A'..=b'Z' | b'a'..=b'z' => b,
-        _ => b'_',
-    }
+    if b.is_ascii_alphanumeric() { b } else { b'_' }
 }
 
 // The number of bytes that put_display writes for b.
+#[tactic(auto, using(crate::proofs::Texts::shows))]
 fn display_width(b: u8) -> usize
     ensures { result ≡ length (Text.display_byte b) }
 {
@@ -33,6 +31,7 @@ fn display_width(b: u8) -> usize
 }
 
 // Writes b's character in UTF-8 at a place of the output, or a period where b is below 20 hex, and returns the place behind it.
+#[tactic(auto, using(crate::proofs::Texts::shows))]
 fn put_display(out: &mut [u8], at: usize, b: u8) -> usize
     requires { at + length (Text.display_byte b) ≤ length out.old }
     ensures value { result ≡ at + length (Text.display_byte b) }
@@ -90,6 +89,7 @@ impl Name {
     }
 
     // The number of bytes that display writes for the first n bytes.
+    #[tactic(auto, using(crate::proofs::Texts::lengths))]
     fn display_len(self, n: usize) -> usize
         requires { n ≤ 16 }
         ensures { result ≡ length (flat_map Text.display_byte (take n self.0)) }
