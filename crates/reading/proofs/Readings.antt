@@ -1,32 +1,41 @@
 -- The laws of the reading: what its parts come to, and where what it found stands in the block. Assumes nothing.
-use Prim.Native.Nat.{ℕ, ◌+◌, ◌*◌, ◌/◌, ◌≤◌, ◌<◌}
+use Prim.Native.Nat.{ℕ, suc, ◌+◌, ◌-◌, ◌*◌, ◌/◌, ◌≤◌, ◌<◌}
 use mathlib.Core.Path.{◌≡◌, refl, sym, ap, ◌∙◌, subst}
 use mathlib.Core.Bool.{Bool, true, false, ◌&&◌}
 use mathlib.Core.List.{List, [], ◌∷◌}
 use native.Mathlib.Nat.{zero-add}
+use native.Mathlib.Numerals.{add-one}
 use native.Mathlib.Omega.{arith}
 use lib.ListN.{length, take, drop, get_or, length-drop}
 use lib.Seq.{get_or-take, length-take-le}
 use lib.Dec.{eqb, lit<}
 use borrow.Author.Tests.{eq-eqb, ne_eqb, eqb-true, eqb-false}
 use Rattle.std.specs.List.{starts_with}
-use Rattle.util.specs.Outcome.{result}
+use Rattle.util.specs.Number.{number_at}
+use Rattle.util.specs.Outcome.{Outcome, result}
+use Rattle.util.proofs.Numbers.{number_in_part}
 use Rattle.util.specs.Take.{taken_part}
 use Rattle.util.proofs.Takes.{part_there, part_empty}
 use Rattle.nds.specs.Params.{format}
 use Rattle.nds.specs.Formats.{data_length, second_length}
-use Rattle.errors.specs.Refusal.{bad_stamp}
+use Rattle.nds.proofs.Sizes.{data_length_lt, second_length_lt}
+use Rattle.errors.specs.Refusal.{bad_stamp, refusal_outcome}
+use Rattle.errors.specs.declared.Refusal.{Refusal}
+use Rattle.errors.specs.declared.Refusal.TheVariants.{Stamp}
+use Rattle.errors.proofs.Refusals as refusals
 use Rattle.errors.specs.declared.Kind.TheVariants as kinds
-use Rattle.scripts.specs.Script.{done, fault, whole, run, outcome_of, bytes_at, each}
-use Rattle.info_block.specs.InfoBlock.{NameList, list_at, list_length, name_list, entry_name, entry_number}
+use Rattle.scripts.specs.Script.{Script, done, fault, whole, run, outcome_of, passing, bytes_at, each, each_from}
+use Rattle.info_block.specs.InfoBlock.{NameList, list_count, list_at, list_length, name_list, entry_name, entry_number}
 use Rattle.reading.specs.Tex as Tex
 use Rattle.reading.specs.Tex.{Contents, has_stamp, header_of, palette_at, read_header, read_pal_block, read_second, read_data}
 use Rattle.layout.specs.Positions.{data_at, second_at}
 use Rattle.reading.specs.Tex.{read_texture, read_textures, read_palettes, read_tex}
+use Rattle.reading.specs.Layouts.{counting, each_texture, layout_answer}
 use Rattle.layout.specs.declared.Header.{Header}
+use Rattle.scripts.proofs.Runs.{take_within, whole_outcome, fault_outcome, ended, refused, each_turn, each_none, each_follows, follows_trans}
 use Rattle.scripts.proofs.Runs.{onward, both, bytes_in, bytes_whole, expect_met, expect_failed, expect_held, expected, outcome_map, outcome_bind}
 use Rattle.scripts.proofs.Runs.{outcome_same, each_count, each_done, each_length, each_at, Follows, follows_bind, follows_onward}
-use Rattle.info_block.proofs.Lists.{name_listed}
+use Rattle.info_block.proofs.Lists.{name_listed, list_counted}
 
 -- the stamp, where it stands in the block
 pub stamp_there : (b : List ℕ) → has_stamp (take 60 b) ≡ has_stamp b
@@ -299,3 +308,154 @@ unfolding read_pal_block
 pal_block_whole h b e =
     let there = bytes_whole h.pal_block_off (8 * h.pal_block_len_shr_3) b e in
     there.same ∙ part_there _ _ _ there.within
+
+-- The laws in the form of the goals: what each function answers, by what it called.
+
+-- the header
+module _ (b : List ℕ) where
+  pub field_there : (size p : ℕ) → p + size ≤ 60 → number_at size p (take 60 b) ≡ number_at size p b
+  field_there size p h = number_in_part size p 0 60 b h ∙ ap (λ (q : ℕ). number_at size q b) (omega arith)
+
+  pub header_refused : (r : Refusal) → refusal_outcome r ≡ passing (bytes_at 0 60) b → refusal_outcome r ≡ outcome_of (run read_header b) result
+  header_refused r e = refused _ _ (header_follows b) _ _ r e
+
+  pub stamp_refused : 60 ≤ length b → has_stamp (take 60 b) ≡ false → refusal_outcome Stamp ≡ outcome_of (run read_header b) result
+  stamp_refused h e = fault_outcome result (stamp_bad b h e)
+
+  pub header_found : 60 ≤ length b → has_stamp (take 60 b) ≡ true → result (header_of (take 60 b)) ≡ outcome_of (run read_header b) result
+  header_found h e = whole_outcome result (header_read b h e)
+
+-- data
+module _ (h : Header) (w : ℕ) (b : List ℕ) where
+  pub first_refused : (p n : ℕ) → p ≡ data_at h w → n ≡ data_length w → (r : Refusal) → refusal_outcome r ≡ passing (bytes_at p n) b
+      → refusal_outcome r ≡ passing (read_data h w) b
+  first_refused p n s t r e = refused _ _ (data_follows h w b) _ _ r (rw (s, t) at e)
+
+  pub first_passed : (p n : ℕ) → p ≡ data_at h w → n ≡ data_length w → result (tt {0}) ≡ passing (bytes_at p n) b
+      → passing (read_second h w) b ≡ passing (read_data h w) b
+  first_passed p n s t e = first_taken h w b (tt {0}) (take_within _ _ _ (rw (s, t) at e))
+
+  pub second_asked : format w ≡ 5 → passing (bytes_at (second_at h w) (second_length w)) b ≡ passing (read_second h w) b
+  second_asked e = ap (λ s. passing s b) (second_taken h w b e)
+
+  pub second_left : (format w ≡ 5 → ⊥) → result (tt {0}) ≡ passing (read_second h w) b
+  second_left e = whole_outcome _ (second_none h w b e)
+
+-- the texture list
+module _ (h : Header) (b : List ℕ) where
+  pub textures_refused : (r : Refusal) → refusal_outcome r ≡ list_count (name_list kinds.Texture h.texture_off) b
+      → refusal_outcome r ≡ counting (read_textures h) b
+  textures_refused r e = refused _ _ (textures_follow h b) _ _ r e
+
+  module _ {n : ℕ} (counted : result n ≡ list_count (name_list kinds.Texture h.texture_off) b) where
+    pub textures_within : h.texture_off + list_length kinds.Texture n ≤ length b
+    textures_within = (name_listed kinds.Texture _ b (list_counted kinds.Texture _ b counted)).within
+
+    pub textures_counted : counting (each_texture h n b) b ≡ counting (read_textures h) b
+    textures_counted = ap (λ x. outcome_of x (λ found. result (length found))) (textures_read h b (list_counted kinds.Texture _ b counted))
+
+-- the textures of a list, one after another: the outcome of n of them from i on
+module _ (b : List ℕ) (h : Header) (count : ℕ) where
+  abbrev pub texture_script : ℕ → Script Tex.Texture
+  texture_script i = read_texture h (list_at kinds.Texture h.texture_off count b) i
+
+  abbrev pub row : (i n : ℕ) → Outcome ℕ
+  row i n = outcome_of (run (each_from i n texture_script) b) (λ _. result count)
+
+  pub row_start : row 0 (count - 0) ≡ counting (each_texture h count b) b
+  row_start = let e : count - 0 ≡ count = omega arith in ap (row 0) e ∙ each_count _ _ count
+
+  pub row_end : (i : ℕ) → count ≤ i → result count ≡ row i (count - i)
+  row_end i l = let e : 0 ≡ count - i = omega arith in each_none texture_script b i count ∙ ap (row i) e
+
+  module _ (i : ℕ) (l : i < count) where
+    unrolled : row i (suc (count - (i + 1))) ≡ row i (count - i)
+    unrolled = let e : suc (count - (i + 1)) ≡ count - i = omega arith in ap (row i) e
+
+    pub row_refused : (w : ℕ) → w ≡ entry_number kinds.Texture 4 (list_at kinds.Texture h.texture_off count b) i → (r : Refusal)
+        → refusal_outcome r ≡ passing (read_data h w) b → refusal_outcome r ≡ row i (count - i)
+    row_refused w q r e =
+        refused _ _ (follows_trans (texture_follows h _ i b) (each_follows texture_script b i (count - (i + 1)))) _ _ r (rw q at e) ∙ unrolled
+
+    pub row_turn : (w : ℕ) → w ≡ entry_number kinds.Texture 4 (list_at kinds.Texture h.texture_off count b) i
+        → result (tt {0}) ≡ passing (read_data h w) b → row (i + 1) (count - (i + 1)) ≡ row i (count - i)
+    row_turn w q e =
+        let there = ended _ _ (rw q at e) in
+        ap (λ k. row k (count - (i + 1))) (add-one i)
+        ∙ (sym (each_turn texture_script b i (count - (i + 1)) count (texture_read h _ i b there.is)) ∙ unrolled)
+
+-- the whole block, by how far the reading came
+module _ (b : List ℕ) where
+  pub header_refuses : (r : Refusal) → refusal_outcome r ≡ outcome_of (run read_header b) result → refusal_outcome r ≡ layout_answer b (run read_tex b)
+  unfolding layout_answer
+  header_refuses r e = refused _ _ (read_header_follows b) (λ h. h) _ r e
+
+  module _ {h : Header} (first : result h ≡ outcome_of (run read_header b) result) where
+    header_is : run read_header b ≡ whole h
+    header_is = let e = ended _ (λ h. h) first in e.is ∙ ap whole (sym e.gives)
+
+    pub pal_block_refuses : (r : Refusal) → refusal_outcome r ≡ passing (read_pal_block h) b → refusal_outcome r ≡ layout_answer b (run read_tex b)
+    unfolding layout_answer
+    pal_block_refuses r e = refused _ _ (read_pal_block_follows b header_is) _ _ r e
+
+    module _ (second : result (tt {0}) ≡ passing (read_pal_block h) b) where
+      pub textures_refuse : (r : Refusal) → refusal_outcome r ≡ counting (read_textures h) b → refusal_outcome r ≡ layout_answer b (run read_tex b)
+      unfolding layout_answer
+      textures_refuse r e =
+          let block = ended (run (read_pal_block h) b) (λ _. tt {0}) second in
+          refused _ _ (read_textures_follows b header_is block.is) _ _ r e
+
+      module _ {textures : ℕ} (third : result textures ≡ counting (read_textures h) b) where
+        pub palettes_refuse : (r : Refusal) → refusal_outcome r ≡ counting (read_palettes h) b → refusal_outcome r ≡ layout_answer b (run read_tex b)
+        unfolding layout_answer
+        palettes_refuse r e =
+            let block = ended (run (read_pal_block h) b) (λ _. tt {0}) second in
+            let listed = ended (run (read_textures h) b) length third in
+            refused _ _ (read_palettes_follows b header_is block.is listed.is) _ _ r e
+
+        pub block_laid : {palettes : ℕ} → result palettes ≡ counting (read_palettes h) b
+            → result (record { header = h; textures = textures; palettes = palettes }) ≡ layout_answer b (run read_tex b)
+        unfolding layout_answer
+        block_laid e =
+            let block = ended (run (read_pal_block h) b) (λ _. tt {0}) second in
+            let listed = ended (run (read_textures h) b) length third in
+            let last = ended (run (read_palettes h) b) length e in
+            rw (header_whole b header_is, listed.gives, last.gives)
+            (whole_outcome _ (read_whole b header_is block.is listed.is last.is))
+
+-- for the functions that read the header, the data and the lists
+pub ruleset reads = (
+  refusals.passed_on,
+  take_within,
+  data_length_lt,
+  second_length_lt,
+  header_refused,
+  stamp_refused,
+  header_found,
+  first_refused,
+  first_passed,
+  second_asked,
+  second_left,
+  textures_refused,
+  textures_within,
+  textures_counted,
+  palettes_read,
+)
+
+-- for those that go through the textures, and through the block
+pub ruleset goes = (
+  refusals.passed_on,
+  row_start,
+  row_end,
+  row_refused,
+  row_turn,
+)
+
+pub ruleset lays = (
+  refusals.passed_on,
+  header_refuses,
+  pal_block_refuses,
+  textures_refuse,
+  palettes_refuse,
+  block_laid,
+)

@@ -29,6 +29,7 @@ fn has_stamp(block: &[u8]) -> bool
 }
 
 // The header's fields.
+#[tactic(auto, using(crate::proofs::Readings::field_there), unfolding(crate::specs::Tex::header_of))]
 fn header_of(block: &[u8]) -> Header
     requires { 60 ≤ length block.now }
     ensures { result ≡ Tex.header_of (first_bytes 60 block.now) }
@@ -45,6 +46,7 @@ fn header_of(block: &[u8]) -> Header
 }
 
 // Reads the header, and then checks its stamp.
+#[tactic(auto, using(crate::proofs::Readings::reads))]
 fn read_header(block: &[u8]) -> Result<Header, Refusal>
     ensures { result_outcome result ≡ outcome_of (run Tex.read_header block.now) answered }
 {
@@ -57,6 +59,7 @@ fn read_header(block: &[u8]) -> Result<Header, Refusal>
 }
 
 // Whether the palette block is there.
+#[tactic(auto, unfolding(crate::specs::Tex::read_pal_block))]
 fn take_pal_block(block: &[u8], header: Header) -> Result<(), Refusal>
     ensures { result_outcome result ≡ passing (Tex.read_pal_block header) block.now }
 {
@@ -64,6 +67,7 @@ fn take_pal_block(block: &[u8], header: Header) -> Result<(), Refusal>
 }
 
 // Whether the second data is there, for a texture that has any.
+#[tactic(auto, using(crate::proofs::Readings::reads))]
 fn take_data2(block: &[u8], header: Header, params: TextureParams) -> Result<(), Refusal>
     ensures { result_outcome result ≡ passing (Tex.read_second header params.0) block.now }
 {
@@ -76,6 +80,7 @@ fn take_data2(block: &[u8], header: Header, params: TextureParams) -> Result<(),
 }
 
 // Whether a texture's data are there, the first and then the second. A texture of format 0 has 0 bytes, and a position all the same.
+#[tactic(auto, using(crate::proofs::Readings::reads))]
 fn take_data(block: &[u8], header: Header, params: TextureParams) -> Result<(), Refusal>
     ensures { result_outcome result ≡ passing (Tex.read_data header params.0) block.now }
 {
@@ -84,6 +89,7 @@ fn take_data(block: &[u8], header: Header, params: TextureParams) -> Result<(), 
 }
 
 // Whether the data of all textures are there, in list order.
+#[tactic(auto, using(crate::proofs::Readings::goes))]
 fn take_all_data(block: &[u8], header: Header, count: usize) -> Result<usize, Refusal>
     requires { header.texture_off + list_length kinds.Texture count ≤ length block.now }
     ensures { result_outcome result ≡ Layouts.counting (Layouts.each_texture header count block.now) block.now }
@@ -96,6 +102,7 @@ fn take_all_data(block: &[u8], header: Header, count: usize) -> Result<usize, Re
 }
 
 // Reads the texture list, and then each texture's data.
+#[tactic(auto, using(crate::proofs::Readings::reads))]
 fn read_textures(block: &[u8], header: Header) -> Result<usize, Refusal>
     ensures { result_outcome result ≡ Layouts.counting (Tex.read_textures header) block.now }
 {
@@ -104,6 +111,7 @@ fn read_textures(block: &[u8], header: Header) -> Result<usize, Refusal>
 }
 
 // Reads the palette list.
+#[tactic(auto, using(crate::proofs::Readings::reads))]
 fn read_palettes(block: &[u8], header: Header) -> Result<usize, Refusal>
     ensures { result_outcome result ≡ Layouts.counting (Tex.read_palettes header) block.now }
 {
@@ -111,6 +119,7 @@ fn read_palettes(block: &[u8], header: Header) -> Result<usize, Refusal>
 }
 
 // Reads the block: header, palette block, textures, palettes.
+#[tactic(auto, using(crate::proofs::Readings::lays))]
 pub fn lay_out(block: &[u8]) -> Result<Layout, Refusal>
     ensures { result_outcome result ≡ Layouts.layout_answer block.now (run Tex.read_tex block.now) }
 {
