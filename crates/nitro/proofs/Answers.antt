@@ -14,13 +14,16 @@ use Rattle.errors.specs.declared.Kind.{Kind}
 use Rattle.errors.specs.declared.Kind.TheVariants as kinds
 use Rattle.errors.specs.declared.Refusal.{Refusal}
 use Rattle.errors.proofs.Refusals.{refusal_not, refusal_any}
+use Rattle.errors.proofs.Refusals as refusals
 use Rattle.scripts.specs.Script.{Answer, short, fault, whole, run, outcome_of}
-use Rattle.info_block.specs.InfoBlock.{list_at, list_length}
+use Rattle.nds.specs.Formats.{data_length, second_length}
+use Rattle.info_block.specs.InfoBlock.{list_at, list_length, entry_name, entry_number}
 use Rattle.reading.specs.Tex as Tex
 use Rattle.reading.specs.Tex.{Contents, header_of, read_tex}
+use Rattle.nitro.specs.Calls.{texture_record, palette_record, palette_of}
 use Rattle.nitro.specs.Calls.{entry, texture_entry, palette_entry, reading_of, texture_of, part_of, data1_of, data2_of, pal_block_of}
 use Rattle.reading.specs.Layouts.{layout_of, layout_answer, LaidOut}
-use Rattle.layout.specs.Positions.{count_of}
+use Rattle.layout.specs.Positions.{count_of, data_at, second_at}
 use Rattle.nitro.specs.ByLayout.{layout_with}
 use Rattle.layout.specs.declared.Layout.{Layout}
 use Rattle.scripts.proofs.Runs.{whole_outcome, ended, follows_self, refused}
@@ -202,3 +205,119 @@ pub no_palette_lem : {B : Type 0} (n : ℕ) (b : List ℕ) (f : Tex.Palette → 
     → refusal_outcome r ≡ layout_with kinds.Palette n b (run read_tex b) → refusal_outcome r ≡ palette_entry f n (run read_tex b)
 unfolding palette_entry
 no_palette_lem n b f r e = no_entry kinds.Palette n b (λ c. c.palettes) f (λ c. refl) r (run read_tex b) e
+
+-- The laws in the form of the goals: what each call answers, by the layout that it found.
+module _ (b : List ℕ) where
+  pub reading_refused : (r : Refusal) → refusal_outcome r ≡ layout_answer b (run read_tex b) → refusal_outcome r ≡ reading_of (run read_tex b)
+  unfolding layout_answer reading_of
+  reading_refused r e = refused _ _ (follows_self _) _ _ r e
+
+  pub reading_found : {l : Layout} → result l ≡ layout_answer b (run read_tex b)
+      → result (record { textures = l.textures; palettes = l.palettes }) ≡ reading_of (run read_tex b)
+  unfolding layout_answer
+  reading_found e = let o = ended _ _ e in reading_laid b o.is o.gives
+
+  pub pal_block_found : {l : Layout} → result l ≡ layout_answer b (run read_tex b)
+      → taken_part l.header.pal_block_off (8 * l.header.pal_block_len_shr_3) b ≡ pal_block_of (run read_tex b)
+  pal_block_found e = laid_pal_block b (record { is = e })
+
+module _ (k : Kind) (n : ℕ) (b : List ℕ) {l : Layout} (e : result l ≡ layout_answer b (run read_tex b)) where
+  pub entry_found : n < count_of k l → result l ≡ layout_with k n b (run read_tex b)
+  entry_found h = laid_entry k n b (record { is = e }) h
+
+  pub entry_missed : count_of k l ≤ n → refusal (absent_number k) 0 ≡ layout_with k n b (run read_tex b)
+  entry_missed h = laid_no_entry k n b (record { is = e }) h
+
+-- the entries of a layout of the block
+module _ (b : List ℕ) {l : Layout} (laid : LaidOut b l) where
+  pub laid_textures : l.header.texture_off + list_length kinds.Texture l.textures ≤ length b
+  unfolding layout_answer
+  laid_textures = let o = ended _ _ laid.is in rw o.gives (textures_listed (header_of (take 60 b)) b (finished b o.is).textures).within
+
+  pub laid_palettes : l.header.palette_off + list_length kinds.Palette l.palettes ≤ length b
+  unfolding layout_answer
+  laid_palettes = let o = ended _ _ laid.is in rw o.gives (palettes_listed (header_of (take 60 b)) b (finished b o.is).palettes).within
+
+  pub laid_texture : (n : ℕ) → n < l.textures
+      → result
+      (texture_record (entry_name kinds.Texture (list_at kinds.Texture l.header.texture_off l.textures b) n)
+      (entry_number kinds.Texture 4 (list_at kinds.Texture l.header.texture_off l.textures b) n))
+      ≡ texture_of n (run read_tex b)
+  unfolding texture_of
+  laid_texture n below =
+      let t = texture_found n b (laid_entry kinds.Texture n b laid below) in
+      ap result (rw (t.at.name, t.at.word)) ∙ t.entry (λ x. texture_record x.name x.word)
+
+  pub laid_palette : (n : ℕ) → n < l.palettes
+      → result
+      (palette_record (entry_name kinds.Palette (list_at kinds.Palette l.header.palette_off l.palettes b) n)
+      (8 * entry_number kinds.Palette 2 (list_at kinds.Palette l.header.palette_off l.palettes b) n))
+      ≡ palette_of n (run read_tex b)
+  unfolding palette_of
+  laid_palette n below =
+      let t = palette_found n b (laid_entry kinds.Palette n b laid below) in
+      ap result (rw t.at) ∙ t.entry (λ x. palette_record x.name x.off)
+
+-- texture n, where a layout with it was found
+module _ (n : ℕ) (b : List ℕ) where
+  module _ {l : Layout} (e : result l ≡ layout_with kinds.Texture n b (run read_tex b)) where
+    pub texture_laid : LaidOut b l × (n < l.textures)
+    texture_laid = entry_laid kinds.Texture n b e
+
+    pub textures_there : (l.header.texture_off + list_length kinds.Texture l.textures ≤ length b) × (n < l.textures)
+    textures_there = let t = texture_found n b e in (t.within, t.below)
+
+    pub data1_found : {w : ℕ} → w ≡ entry_number kinds.Texture 4 (list_at kinds.Texture l.header.texture_off l.textures b) n
+        → taken_part (data_at l.header w) (data_length w) b ≡ data1_of n (run read_tex b)
+    unfolding data1_of
+    data1_found q = let t = texture_found n b e in rw q (sym t.at.parts.first ∙ ap part_of (t.entry (λ x. x.parts.data1)))
+
+    pub data2_found : {w : ℕ} → w ≡ entry_number kinds.Texture 4 (list_at kinds.Texture l.header.texture_off l.textures b) n
+        → taken_part (second_at l.header w) (second_length w) b ≡ data2_of n (run read_tex b)
+    unfolding data2_of
+    data2_found q = let t = texture_found n b e in rw q (sym t.at.parts.second ∙ ap part_of (t.entry (λ x. x.parts.data2)))
+
+  module _ (r : Refusal) (e : refusal_outcome r ≡ layout_with kinds.Texture n b (run read_tex b)) where
+    pub texture_refused : refusal_outcome r ≡ texture_of n (run read_tex b)
+    unfolding texture_of
+    texture_refused = no_texture_lem n b _ r e
+
+    pub no_data1 : [] ≡ data1_of n (run read_tex b)
+    unfolding data1_of
+    no_data1 = ap part_of (no_texture_lem n b _ r e)
+
+    pub no_data2 : [] ≡ data2_of n (run read_tex b)
+    unfolding data2_of
+    no_data2 = ap part_of (no_texture_lem n b _ r e)
+
+  pub palette_laid : {l : Layout} → result l ≡ layout_with kinds.Palette n b (run read_tex b) → LaidOut b l × (n < l.palettes)
+  palette_laid e = entry_laid kinds.Palette n b e
+
+  pub palette_refused : (r : Refusal) → refusal_outcome r ≡ layout_with kinds.Palette n b (run read_tex b) → refusal_outcome r ≡ palette_of n (run read_tex b)
+  unfolding palette_of
+  palette_refused r e = no_palette_lem n b _ r e
+
+-- for the calls
+pub ruleset answers = (
+  refusals.passed_on,
+  not_laid,
+  reading_refused,
+  reading_found,
+  pal_block_found,
+  no_pal_block,
+  entry_found,
+  entry_missed,
+  laid_textures,
+  laid_texture,
+  laid_palettes,
+  laid_palette,
+  texture_laid,
+  textures_there,
+  data1_found,
+  data2_found,
+  texture_refused,
+  no_data1,
+  no_data2,
+  palette_laid,
+  palette_refused,
+)

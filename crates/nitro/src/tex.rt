@@ -45,6 +45,7 @@ pub struct PaletteRecord {
 }
 
 // The layout of a block whose list of the kind has an entry n.
+#[tactic(auto, using(crate::proofs::Answers::answers))]
 fn find(block: &[u8], kind: Kind, n: usize) -> Result<Layout, Refusal>
     ensures { result_outcome result ≡ ByLayout.layout_with kind n block.now (run Tex.read_tex block.now) }
 {
@@ -87,6 +88,7 @@ pub fn no_palette() -> PaletteRecord
 }
 
 // Reads the block: how many textures and palettes it has.
+#[tactic(auto, using(crate::proofs::Answers::answers))]
 pub fn read_tex(block: &[u8]) -> Result<Counts, Refusal>
     ensures { result_outcome result ≡ Calls.reading_of (run Tex.read_tex block.now) }
 {
@@ -98,6 +100,7 @@ pub fn read_tex(block: &[u8]) -> Result<Counts, Refusal>
 }
 
 // The record of texture n, by the block's layout.
+#[tactic(auto, using(crate::proofs::Answers::answers))]
 pub fn texture_by(block: &[u8], layout: Layout, n: usize) -> TextureRecord
     requires { LaidOut block.now layout × (n < layout.textures) }
     ensures { answered result ≡ Calls.texture_of n (run Tex.read_tex block.now) }
@@ -111,6 +114,7 @@ pub fn texture_by(block: &[u8], layout: Layout, n: usize) -> TextureRecord
 }
 
 // The record of texture n.
+#[tactic(auto, using(crate::proofs::Answers::answers))]
 pub fn texture(block: &[u8], n: usize) -> Result<TextureRecord, Refusal>
     ensures { result_outcome result ≡ Calls.texture_of n (run Tex.read_tex block.now) }
 {
@@ -119,6 +123,7 @@ pub fn texture(block: &[u8], n: usize) -> Result<TextureRecord, Refusal>
 }
 
 // The record of palette n, by the block's layout.
+#[tactic(auto, using(crate::proofs::Answers::answers))]
 pub fn palette_by(block: &[u8], layout: Layout, n: usize) -> PaletteRecord
     requires { LaidOut block.now layout × (n < layout.palettes) }
     ensures { answered result ≡ Calls.palette_of n (run Tex.read_tex block.now) }
@@ -132,6 +137,7 @@ pub fn palette_by(block: &[u8], layout: Layout, n: usize) -> PaletteRecord
 }
 
 // The record of palette n.
+#[tactic(auto, using(crate::proofs::Answers::answers))]
 pub fn palette(block: &[u8], n: usize) -> Result<PaletteRecord, Refusal>
     ensures { result_outcome result ≡ Calls.palette_of n (run Tex.read_tex block.now) }
 {
@@ -140,6 +146,7 @@ pub fn palette(block: &[u8], n: usize) -> Result<PaletteRecord, Refusal>
 }
 
 // The data of texture n, or the first data of a block-compressed texture.
+#[tactic(auto, using(crate::proofs::Answers::answers))]
 pub fn texture_data1(block: &[u8], n: usize) -> &[u8]
     ensures { result.now ≡ Calls.data1_of n (run Tex.read_tex block.now) }
 {
@@ -154,6 +161,7 @@ pub fn texture_data1(block: &[u8], n: usize) -> &[u8]
 }
 
 // The second data of texture n. Only a block-compressed texture has any.
+#[tactic(auto, using(crate::proofs::Answers::answers))]
 pub fn texture_data2(block: &[u8], n: usize) -> &[u8]
     ensures { result.now ≡ Calls.data2_of n (run Tex.read_tex block.now) }
 {
@@ -168,6 +176,7 @@ pub fn texture_data2(block: &[u8], n: usize) -> &[u8]
 }
 
 // The palette block, which all palettes share.
+#[tactic(auto, using(crate::proofs::Answers::answers))]
 pub fn pal_block(block: &[u8]) -> &[u8]
     ensures { result.now ≡ Calls.pal_block_of (run Tex.read_tex block.now) }
 {
