@@ -14,7 +14,7 @@ ghost use Rattle.nitro.specs.ByLayout as ByLayout;
 use cursor::part_at;
 use errors::{Kind, Refusal};
 use info_block::entry_name;
-use layout::{Layout, count_of, data1_pos, data2_pos, off_at, pal_block_len, params_at};
+use layout::{Header, Layout, count_of, data1_pos, data2_pos, off_at, pal_block_len, params_at};
 use name::Name;
 use nds::texture_formats::Alpha;
 use nds::texture_params::TextureParams;
@@ -145,17 +145,24 @@ pub fn palette(block: &[u8], n: usize) -> Result<PaletteRecord, Refusal>
     Ok(palette_by(block, layout, n))
 }
 
+// The header of a block that has texture n, and the texture's word: by these its data stand.
+#[tactic(auto, using(crate::proofs::Answers::answers))]
+fn find_word(block: &[u8], n: usize) -> Result<(Header, TextureParams), Refusal>
+    ensures { result_outcome result ≡ ByLayout.word_with n block.now (run Tex.read_tex block.now) }
+{
+    let layout = find(block, Kind::Texture, n)?;
+    let header = layout.header;
+    let params = params_at(block, header.texture_off as usize, layout.textures, n);
+    Ok((header, params))
+}
+
 // The data of texture n, or the first data of a block-compressed texture.
 #[tactic(auto, using(crate::proofs::Answers::answers))]
 pub fn texture_data1(block: &[u8], n: usize) -> &[u8]
     ensures { result.now ≡ Calls.data1_of n (run Tex.read_tex block.now) }
 {
-    match find(block, Kind::Texture, n) {
-        Ok(layout) => {
-            let header = layout.header;
-            let params = params_at(block, header.texture_off as usize, layout.textures, n);
-            part_at(block, data1_pos(header, params), params.byte_len())
-        }
+    match find_word(block, n) {
+        Ok((header, params)) => part_at(block, data1_pos(header, params), params.byte_len()),
         Err(_) => &block[..0],
     }
 }
@@ -165,12 +172,8 @@ pub fn texture_data1(block: &[u8], n: usize) -> &[u8]
 pub fn texture_data2(block: &[u8], n: usize) -> &[u8]
     ensures { result.now ≡ Calls.data2_of n (run Tex.read_tex block.now) }
 {
-    match find(block, Kind::Texture, n) {
-        Ok(layout) => {
-            let header = layout.header;
-            let params = params_at(block, header.texture_off as usize, layout.textures, n);
-            part_at(block, data2_pos(header, params), params.byte_len2())
-        }
+    match find_word(block, n) {
+        Ok((header, params)) => part_at(block, data2_pos(header, params), params.byte_len2()),
         Err(_) => &block[..0],
     }
 }
