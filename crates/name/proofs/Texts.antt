@@ -1,14 +1,16 @@
 -- The laws of names' texts: what is left of a name without its trailing zeros, and texts made byte after byte. Assumes nothing.
-use Prim.Native.Nat.{ℕ, suc, ◌+◌, ◌-◌, ◌/◌, ◌%◌, ◌≤◌, ◌<◌}
-use mathlib.Core.Path.{◌≡◌, refl, ap, ◌∙◌}
+use Prim.Native.Nat.{ℕ, suc, ◌+◌, ◌/◌, ◌%◌, ◌≤◌, ◌<◌}
+use mathlib.Core.Path.{◌≡◌, refl, ap}
 use mathlib.Core.Bool.{Bool, true, false, cond}
-use mathlib.Core.List.{List, [], ◌∷◌, ◌++◌, map, flat_map, append-nil, append_assoc, map-append}
+use mathlib.Core.List.{List, [], ◌∷◌, ◌++◌, map, reverse, flat_map, append-nil, append_assoc, map-append}
 use native.Mathlib.Numerals.{add-one}
 use native.Mathlib.Omega.{arith}
 use lib.ListN.{length, take, get_or, length-append, length-take, length-map, take-append-drop}
 use lib.Seq.{take-suc, take-take, length-take-le}
 use lib.Dec.{eqb, ltb}
-use borrow.Author.Tests.{ne_eqb, lt-ltb, le-ltb}
+use Rattle.std.specs.List.{prefix_len}
+use Rattle.std.proofs.lemmas.List.{reverse-append, reverse-reverse, length-reverse}
+use borrow.Author.Tests.{eqb-true, eqb-false, ne_eqb, lt-ltb, le-ltb}
 use Rattle.name.specs.Name.{before, trimmed, safe_byte, or_underscore, safe_text, display_byte, display_text}
 
 trimmed_zero : (xs : List ℕ) → trimmed (xs ++ (0 ∷ [])) ≡ trimmed xs
@@ -25,16 +27,22 @@ unfolding trimmed
 trimmed_kept [] b h = rw (ne_eqb b 0 h)
 trimmed_kept (x ∷ xs) b h = rw (trimmed_kept xs b h) (before_some x xs b)
 
--- the first n bytes, by the last of them
-module _ (xs : List ℕ) (n : ℕ) (some : 0 < n) (within : n ≤ length xs) where
-  last : take n xs ≡ take (n - 1) xs ++ (get_or xs (n - 1) 0 ∷ [])
-  last = let e : n ≡ suc (n - 1) = omega arith in ap (λ k. take k xs) e ∙ take-suc xs (n - 1) 0 (omega arith)
+-- what is left of a name, and the zeros behind it
+reverse_cons : (y : ℕ) (ys : List ℕ) → reverse (y ∷ ys) ≡ reverse ys ++ (y ∷ [])
+reverse_cons y ys = reverse-append (y ∷ []) ys
 
-  pub trim_zero : get_or xs (n - 1) 0 ≡ 0 → trimmed (take (n - 1) xs) ≡ trimmed (take n xs)
-  trim_zero e = rw (last, e, trimmed_zero)
+zeros_reversed : (ys : List ℕ) → length (trimmed (reverse ys)) + prefix_len (λ b. eqb b 0) ys ≡ length ys
+unfolding trimmed
+zeros_reversed [] = refl
+zeros_reversed (y ∷ ys) = rw (reverse_cons y ys) (go (eqb y 0) refl (zeros_reversed ys))
+  where
+    go : (t : Bool) → eqb y 0 ≡ t → length (trimmed (reverse ys)) + prefix_len (λ b. eqb b 0) ys ≡ length ys
+        → length (trimmed (reverse ys ++ (y ∷ []))) + prefix_len (λ b. eqb b 0) (y ∷ ys) ≡ suc (length ys)
+    go true q h = let zero : y ≡ 0 = eqb-true y 0 q in rw (zero, trimmed_zero (reverse ys)) (omega arith)
+    go false q h = rw (trimmed_kept (reverse ys) y (eqb-false y 0 q), q, length-append, length-reverse) (omega arith)
 
-  pub trim_none : (get_or xs (n - 1) 0 ≡ 0 → ⊥) → take n xs ≡ trimmed (take n xs)
-  trim_none h = rw (last, trimmed_kept _ _ h)
+pub zeros_trimmed : (xs : List ℕ) → length (trimmed xs) + prefix_len (λ b. eqb b 0) (reverse xs) ≡ length xs
+zeros_trimmed xs = rw (reverse-reverse, length-reverse) at (zeros_reversed (reverse xs))
 
 take_trimmed : (xs : List ℕ) → take (length (trimmed xs)) xs ≡ trimmed xs
 unfolding trimmed

@@ -55,15 +55,7 @@ impl Name {
     fn trimmed_len(self) -> usize
         ensures { result ≡ length (Text.trimmed self.0) }
     {
-        let bytes = self.0;
-        let mut n: usize = 16;
-        while 0 < n {
-            if bytes[n - 1] != 0 {
-                return n;
-            }
-            n -= 1;
-        }
-        n
+        16 - self.0.iter().rev().take_while(|&&b| b == 0).count()
     }
 
     // Writes the name as letters, digits and underscores, of which there is at least one.

@@ -1,34 +1,24 @@
--- `name::Name::trimmed_len` meets its contract: what the loop has passed are zeros. Assumes nothing.
-use Prim.Native.Nat.{◌≤◌}
-use mathlib.Core.Path.{◌≡◌, sym, ap, ◌∙◌}
+-- `name::Name::trimmed_len` meets its contract: the zeros at the end are counted. Assumes nothing.
+use mathlib.Core.Path.{◌≡◌, ◌∙◌}
+use mathlib.Core.List.{reverse}
 use native.Mathlib.Omega.{arith}
+use lib.Dec.{eqb}
 use lib.ListN.{length}
-use lib.Seq.{take_all, length-take-le}
 use borrow.Author.Rules.{rules}
-use Rattle.name.specs.Name.{trimmed}
-use Rattle.name.proofs.Texts.{trim_zero, trim_none}
+use Rattle.std.proofs.Common.{tests}
+use Rattle.std.specs.List.{prefix_len}
+use Rattle.std.proofs.lemmas.Iterator.Adapters.{YieldsList-from_rev_slice}
+use Rattle.std.proofs.lemmas.Iterator.Consumers.{count_from_yields_List}
+use Rattle.std.proofs.lemmas.Iterator.Search.{YieldsList-from_take_while}
+use Rattle.std.proofs.lemmas.List.Folds.{length-prefix_len}
+use Rattle.name.proofs.Texts.{zeros_trimmed}
 use Rattle.name.proofs.Name.trimmed_len.Goals as goal
 
-pub loop-n-init : goal.loop-n-init
-loop-n-init c =
-    let sized : length c.args.self.0 ≡ 16 = search rules in
-    (omega arith, ap trimmed (take_all 16 _ (omega (arith, sized))))
-
-pub returns-then-bytes-n-ne0 : goal.returns-then-bytes-n-ne0
-returns-then-bytes-n-ne0 c =
-    let sized : length c.args.self.0 ≡ 16 = search rules in
-    let e = sized in
-    let h : c.loop-n.n ≤ length c.args.self.0 = omega arith in
-    sym (length-take-le _ _ h) ∙ ap length (trim_none _ _ (omega arith) h c.if-bytes-n-ne0.true ∙ c.loop-n.invariant.1)
-
-pub loop-n-preserved : goal.loop-n-preserved
-loop-n-preserved c =
-    let sized : length c.args.self.0 ≡ 16 = search rules in
-    let e = sized in
-    (omega arith, trim_zero _ c.loop-n.n (omega arith) (omega arith) c.if-bytes-n-ne0.false ∙ c.loop-n.invariant.1)
-
 pub returns : goal.returns
-unfolding trimmed
 returns c =
-    let z : c.loop-n.n ≡ 0 = omega arith in
-    z ∙ ap length (rw z at c.loop-n.invariant.1)
+    let name = c.args.self.0 in
+    let sized : length c.args.self.0 ≡ 16 = search rules in
+    let counted = count_from_yields_List c.take_while.result c.count.result c.count.ensures.ran
+    (YieldsList-from_take_while _ (λ b. eqb b 0) (YieldsList-from_rev_slice c.args.self.0 (cc)) (cc) (cc) (λ x b q k. search (rules, tests))) in
+    let zeros : c.count.result ≡ prefix_len (λ b. eqb b 0) (reverse c.args.self.0) = counted ∙ length-prefix_len (λ b. eqb b 0) (reverse c.args.self.0) in
+    omega (arith, zeros, sized, zeros_trimmed c.args.self.0)
