@@ -1,6 +1,6 @@
 -- The laws of names' texts: what is left of a name without its trailing zeros, and texts made byte after byte. Assumes nothing.
-use Prim.Native.Nat.{ℕ, suc, ◌+◌, ◌/◌, ◌%◌, ◌≤◌, ◌<◌}
-use mathlib.Core.Path.{◌≡◌, refl, ap}
+use Prim.Native.Nat.{ℕ, suc, ◌+◌, ◌*◌, ◌/◌, ◌%◌, ◌≤◌, ◌<◌}
+use mathlib.Core.Path.{◌≡◌, refl, sym, ap}
 use mathlib.Core.Bool.{Bool, true, false, cond}
 use mathlib.Core.List.{List, [], ◌∷◌, ◌++◌, map, reverse, flat_map, append-nil, append_assoc, map-append}
 use native.Mathlib.Numerals.{add-one}
@@ -8,7 +8,8 @@ use native.Mathlib.Omega.{arith}
 use lib.ListN.{length, take, get_or, length-append, length-take, length-map, take-append-drop}
 use lib.Seq.{take-suc, take-take, length-take-le}
 use lib.Dec.{eqb, ltb}
-use Rattle.std.specs.List.{prefix_len}
+use Rattle.std.specs.List.{prefix_len, sum_by}
+use Rattle.std.proofs.lemmas.List.Recursion.{is_sum_by}
 use Rattle.std.proofs.lemmas.List.{reverse-append, reverse-reverse, length-reverse}
 use borrow.Author.Tests.{eqb-true, eqb-false, ne_eqb, lt-ltb, le-ltb}
 use Rattle.name.specs.Name.{before, trimmed, safe_byte, or_underscore, safe_text, display_byte, display_text}
@@ -130,11 +131,6 @@ unfolding flat_map
 flat_append f [] ys = refl
 flat_append f (x ∷ xs) ys = rw (flat_append f xs ys, append_assoc)
 
--- no bytes have no text
-pub flat_none : (f : ℕ → List ℕ) → length (flat_map f []) ≡ 0
-unfolding flat_map
-flat_none f = refl
-
 -- the texts of the first bytes
 module _ (xs : List ℕ) (i : ℕ) where
   pub take_more : i < length xs → take (i + 1) xs ≡ take i xs ++ (get_or xs i 0 ∷ [])
@@ -156,14 +152,18 @@ module _ (xs : List ℕ) (i : ℕ) where
       let rest = simp (length-append, take-take (i + 1) n xs (omega arith)) at (ap length e) in
       omega arith
 
--- the length of one text more
-pub display_longer : (xs : List ℕ) (i : ℕ) → i < length xs
-    → length (flat_map display_byte (take (i + 1) xs)) ≡ length (flat_map display_byte (take i xs)) + length (display_byte (get_or xs i 0))
-display_longer xs i h = rw (flat_more xs i display_byte h, length-append)
+-- the lengths of the bytes' texts, added up
+pub widths_added : (xs : List ℕ) → sum_by (λ b. length (display_byte b)) xs ≡ length (flat_map display_byte xs)
+unfolding flat_map
+widths_added xs =
+    sym
+    (is_sum_by (λ ys. length (flat_map display_byte ys)) (λ b. length (display_byte b)) refl
+    (λ x ys. length-append (display_byte x) (flat_map display_byte ys)) xs)
 
--- for the function that adds up the lengths
-pub ruleset lengths = (
-  flat_none,
-  display_short,
-  display_longer,
-)
+texts_few : (xs : List ℕ) → length (flat_map display_byte xs) ≤ 2 * length xs
+unfolding flat_map
+texts_few [] = omega arith
+texts_few (x ∷ xs) = omega (arith, length-append (display_byte x) (flat_map display_byte xs), display_short x, texts_few xs)
+
+pub widths_few : (xs : List ℕ) → sum_by (λ b. length (display_byte b)) xs ≤ 2 * length xs
+widths_few xs = rw (widths_added xs) (texts_few xs)

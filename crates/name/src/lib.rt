@@ -81,17 +81,11 @@ impl Name {
     }
 
     // The number of bytes that display writes for the first n bytes.
-    #[tactic(auto, using(crate::proofs::Texts::lengths))]
     fn display_len(self, n: usize) -> usize
         requires { n ≤ 16 }
         ensures { result ≡ length (flat_map Text.display_byte (take n self.0)) }
     {
-        let bytes = self.0;
-        let mut len: usize = 0;
-        for i in 0..n {
-            len += display_width(bytes[i]);
-        }
-        len
+        self.0[..n].iter().map(|&b| display_width(b)).sum()
     }
 
     // Writes the name in UTF-8, each byte as the character of that number, with a period for each byte below 20 hex.
