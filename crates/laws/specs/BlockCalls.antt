@@ -57,7 +57,7 @@ block_lay_out = answering (λ b. layout_answer b (run read_tex b))
 abbrev pub block_read_tex : BlockCall Counts (Unit {0})
 block_read_tex = answering (λ b. Calls.reading_of (run read_tex b))
 
--- `nitro::tex::texture` and `nitro::tex::palette`: a record, which is blank beside a refusal.
+-- `nitro::tex::texture` and `nitro::tex::palette`: a record; beside it, what stands for it where it is refused.
 abbrev pub block_texture : (i : ℕ) → BlockCall TextureRecord TextureRecord
 block_texture i = record {
   answer = λ b. Calls.texture_of i (run read_tex b);

@@ -17,7 +17,7 @@ abbrev pub list_word : Kind → List ℕ
 list_word Texture = ascii "textures"
 list_word Palette = ascii "palettes"
 
--- The line of entry n, with the record that the record call has beside its status.
+-- The line of entry n, with the record, or what stands for it where it is refused.
 abbrev pub entry_line : Kind → Answer Contents → (n : ℕ) → List ℕ
 entry_line Texture a n = texture_line n (value_or no_texture (texture_of n a))
 entry_line Palette a n = palette_line n (value_or no_palette (palette_of n a))
