@@ -67,7 +67,7 @@ pub extern "C" fn rasclanya_height(word: u32) -> u32
 pub extern "C" fn rasclanya_format(word: u32) -> u8
     ensures { result ≡ Params.format word }
 {
-    TextureParams(word).format().0
+    TextureParams(word).format().number()
 }
 
 #[unsafe(no_mangle)]

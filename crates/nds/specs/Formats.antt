@@ -6,6 +6,19 @@ use Rattle.nds.specs.declared.texture_formats.Alpha.TheVariants.{Opaque, Transpa
 use Rattle.nds.specs.declared.texture_formats.AlphaDesc.{AlphaDesc}
 use Rattle.nds.specs.declared.texture_formats.AlphaDesc.TheVariants.{Always, TransparentDependingOnParams}
 use Rattle.nds.specs.declared.texture_formats.FormatDesc.{FormatDesc}
+use Rattle.nds.specs.declared.texture_formats.TextureFormat.{TextureFormat}
+use Rattle.nds.specs.declared.texture_formats.TextureFormat.TheVariants.{NoTexture, A3I5, Palette4, Palette16, Palette256, Compressed, A5I3, Direct}
+
+-- The format's number in a texture word.
+abbrev pub number_of : TextureFormat → ℕ
+number_of NoTexture = 0
+number_of A3I5 = 1
+number_of Palette4 = 2
+number_of Palette16 = 3
+number_of Palette256 = 4
+number_of Compressed = 5
+number_of A5I3 = 6
+number_of Direct = 7
 
 -- 01, "Records": "bits per texel 0, 8, 2, 4, 8, 2, 8, 16"
 abbrev pub bits_per_texel : ℕ → ℕ

@@ -1,12 +1,29 @@
 // The texture formats' facts, and what they say of a texture word.
-ghost use Rattle.std.specs.Prelude.{◌≡◌, ◌<◌};
+ghost use Rattle.std.specs.Prelude.{◌≡◌};
 ghost use Rattle.nds.specs.Formats as Formats;
 
 use crate::texture_params::TextureParams;
 
-// The format's number. A texture word's is below 8.
-#[derive(Clone, Copy)]
-pub struct TextureFormat(pub u8);
+// A texture's format, in GBATEK's terms. The comments say how a texel is stored.
+#[derive(Clone, Copy, PartialEq, Eq)]
+pub enum TextureFormat {
+    // There is no texture.
+    NoTexture = 0,
+    // A colour number of 5 bits and an alpha of 3.
+    A3I5 = 1,
+    // A colour number of 2 bits.
+    Palette4 = 2,
+    // A colour number of 4 bits.
+    Palette16 = 3,
+    // A colour number of 8 bits.
+    Palette256 = 4,
+    // A colour number of 2 bits, within the colours of a block of 4 by 4 texels.
+    Compressed = 5,
+    // A colour number of 3 bits and an alpha of 5.
+    A5I3 = 6,
+    // A colour of 15 bits and an alpha of 1.
+    Direct = 7,
+}
 
 #[derive(Clone, Copy)]
 pub enum Alpha {
@@ -87,12 +104,18 @@ const DESCS: [FormatDesc; 8] = [
 ];
 
 impl TextureFormat {
+    // The format's number in a texture word.
+    pub fn number(self) -> u8
+        ensures { result ≡ Formats.number_of self }
+    {
+        self as u8
+    }
+
     #[tactic(auto, using(util::proofs::Table::tabulated), unfolding(crate::specs::Formats::desc))]
     pub fn desc(self) -> FormatDesc
-        requires { self.0 < 8 }
-        ensures { result ≡ Formats.desc self.0 }
+        ensures { result ≡ Formats.desc (Formats.number_of self) }
     {
-        DESCS[self.0 as usize]
+        DESCS[self as usize]
     }
 }
 
@@ -111,7 +134,7 @@ impl TextureParams {
     pub fn byte_len2(self) -> usize
         ensures { result ≡ Formats.second_length self.0 }
     {
-        if self.format().0 == 5 {
+        if self.format() == TextureFormat::Compressed {
             self.byte_len() / 2
         } else {
             0

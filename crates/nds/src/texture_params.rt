@@ -1,5 +1,6 @@
 // The texture word: a texture's size, format and addressing in 32 bits.
 ghost use Rattle.std.specs.Prelude.{◌≡◌, ◌<◌};
+ghost use Rattle.nds.specs.Formats as Formats;
 ghost use Rattle.nds.specs.Params as Params;
 ghost use Rattle.nds.specs.Wrap.{wrap_of};
 
@@ -67,9 +68,19 @@ impl TextureParams {
     }
 
     pub fn format(self) -> TextureFormat
-        ensures { result.0 ≡ Params.format self.0 }
+        ensures { Formats.number_of result ≡ Params.format self.0 }
     {
-        TextureFormat(bits(self.0, 26, 29) as u8)
+        match bits(self.0, 26, 29) {
+            0 => TextureFormat::NoTexture,
+            1 => TextureFormat::A3I5,
+            2 => TextureFormat::Palette4,
+            3 => TextureFormat::Palette16,
+            4 => TextureFormat::Palette256,
+            5 => TextureFormat::Compressed,
+            6 => TextureFormat::A5I3,
+            7 => TextureFormat::Direct,
+            _ => unreachable!(),
+        }
     }
 
     pub fn is_color0_transparent(self) -> bool

@@ -108,7 +108,7 @@ fn show(params: TextureParams) {
     number(b" size ", params.width() as u64);
     number(b" ", params.height() as u64);
     let format = params.format();
-    number(b" format ", format.0 as u64);
+    number(b" format ", format.number() as u64);
     number(b" color0 ", params.is_color0_transparent() as u64);
     number(b" transform ", params.texcoord_transform_mode() as u64);
     let desc = format.desc();
