@@ -60,3 +60,8 @@ refusal_outcome r = refusal (refusal_number r) (refusal_returned r)
 abbrev pub result_outcome : {A : Type 0} → Result A Refusal → Outcome A
 result_outcome (Ok a) = result a
 result_outcome (Err r) = refusal_outcome r
+
+-- And where `f` says what is told of the value.
+abbrev pub outcome_as : {A B : Type 0} → (A → B) → Result A Refusal → Outcome B
+outcome_as f (Ok a) = result (f a)
+outcome_as f (Err r) = refusal_outcome r

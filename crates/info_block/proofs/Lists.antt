@@ -16,7 +16,7 @@ use Rattle.errors.specs.declared.Refusal.{Refusal}
 use Rattle.errors.specs.declared.Refusal.TheVariants.{Dummy, DatumSize}
 use Rattle.errors.proofs.Refusals as refusals
 use Rattle.scripts.specs.Script.{fault, whole, run, outcome_of, bytes_at}
-use Rattle.info_block.specs.InfoBlock.{NameList, datum_bytes, size_at, name_at, list_length, list_at, list_count, entry_name, whole_list, name_list}
+use Rattle.info_block.specs.InfoBlock.{NameList, datum_bytes, size_at, name_at, list_length, list_at, entry_name, whole_list, name_list}
 use Rattle.scripts.proofs.Runs.{take_within, whole_outcome, fault_outcome, refused}
 use Rattle.scripts.proofs.Runs.{onward, both, bytes_in, bytes_whole, expect_met, expect_failed, expected, ended, Follows, follows_bind}
 
@@ -93,45 +93,43 @@ module _ (kind : Kind) (pos : ℕ) (b : List ℕ) where
       let l = listed kind pos (number_at 1 1 o.middle) b o.second in
       subst (λ (c : ℕ). Listed kind pos c b list) (sym (ap (λ (x : NameList). x.count) l.is)) l
 
-  -- the list, by the count that reading it answered
-  pub list_counted : {n : ℕ} → result n ≡ outcome_of (run (name_list kind pos) b) (λ list. result list.count)
-      → run (name_list kind pos) b ≡ whole (list_at kind pos n b)
-  list_counted {n} e =
-      let o = ended (run (name_list kind pos) b) (λ list. list.count) e in
-      o.is ∙ ap whole ((name_listed o.is).is ∙ ap (λ (c : ℕ). list_at kind pos c b) (sym o.gives))
+  -- the list that reading it answered
+  pub list_read : {list : NameList} → result list ≡ outcome_of (run (name_list kind pos) b) result → run (name_list kind pos) b ≡ whole list
+  list_read e = let o = ended (run (name_list kind pos) b) (λ list. list) e in o.is ∙ ap whole (sym o.gives)
 
 -- a list by the size of a datum that the code has
 module _ (kind : Kind) (pos c : ℕ) (b : List ℕ) {size : ℕ} (sized : size ≡ datum_bytes kind) where
   pub list_refused : (r : Refusal) → refusal_outcome r ≡ outcome_of (run (bytes_at pos (16 + 4 * c + size * c + 16 * c)) b) (λ _. result (tt {0}))
-      → refusal_outcome r ≡ list_count (whole_list kind pos c) b
+      → refusal_outcome r ≡ outcome_of (run (whole_list kind pos c) b) result
   list_refused r e = refused _ _ (list_follows kind pos c b (rw sized)) _ _ r e
 
   module _ (within : pos + (16 + 4 * c + size * c + 16 * c) ≤ length b) where
     there : pos + list_length kind c ≤ length b
     there = rw sized at within
 
-    pub dummy_refused : (number_at 1 pos b ≡ 0 → ⊥) → refusal_outcome (Dummy kind) ≡ list_count (whole_list kind pos c) b
+    pub dummy_refused : (number_at 1 pos b ≡ 0 → ⊥) → refusal_outcome (Dummy kind) ≡ outcome_of (run (whole_list kind pos c) b) result
     dummy_refused bad = fault_outcome _ (dummy_bad kind pos c b there bad)
 
     pub size_refused : number_at 1 pos b ≡ 0 → (number_at 2 (pos + size_at c) b ≡ size → ⊥)
-        → refusal_outcome (DatumSize kind) ≡ list_count (whole_list kind pos c) b
+        → refusal_outcome (DatumSize kind) ≡ outcome_of (run (whole_list kind pos c) b) result
     size_refused zero bad = fault_outcome _ (size_bad kind pos c b there zero (λ e. bad (e ∙ sym sized)))
 
-    pub list_found : number_at 1 pos b ≡ 0 → number_at 2 (pos + size_at c) b ≡ size → result c ≡ list_count (whole_list kind pos c) b
+    pub list_found : number_at 1 pos b ≡ 0 → number_at 2 (pos + size_at c) b ≡ size → result (list_at kind pos c b) ≡ outcome_of (run (whole_list kind pos c) b) result
     list_found zero good = whole_outcome _ (list_passes kind pos c b there zero (good ∙ sized))
 
 -- and the whole reading of it
 module _ (kind : Kind) (pos : ℕ) (b : List ℕ) where
   pub head_refused : (r : Refusal) → refusal_outcome r ≡ outcome_of (run (bytes_at pos 2) b) (λ _. result (tt {0}))
-      → refusal_outcome r ≡ list_count (name_list kind pos) b
+      → refusal_outcome r ≡ outcome_of (run (name_list kind pos) b) result
   head_refused r e = refused _ _ (head_follows kind pos b) _ _ r e
 
-  pub list_by_count : pos + 2 ≤ length b → list_count (whole_list kind pos (number_at 1 (pos + 1) b)) b ≡ list_count (name_list kind pos) b
-  list_by_count h = ap (λ x. outcome_of x (λ list. result list.count)) (sym (counted kind pos b h))
+  pub list_by_count : pos + 2 ≤ length b
+      → outcome_of (run (whole_list kind pos (number_at 1 (pos + 1) b)) b) result ≡ outcome_of (run (name_list kind pos) b) result
+  list_by_count h = ap (λ x. outcome_of x result) (sym (counted kind pos b h))
 
 -- for the functions that read lists
 pub ruleset reads = (
-  refusals.passed_on,
+  refusals.passed_as,
   take_within,
   data_small,
   list_refused,
@@ -142,11 +140,7 @@ pub ruleset reads = (
   list_by_count,
 )
 
--- entry n of a list, as the code computes its place
-module _ (kind : Kind) (pos c n : ℕ) (b : List ℕ) {size : ℕ} (sized : size ≡ datum_bytes kind) (below : n < c)
-    (within : pos + list_length kind c ≤ length b) where
-  pub entry_within : pos + (16 + 4 * c + size * c + 16 * n) + 16 ≤ length b
-  entry_within = rw sized (omega arith)
-
-  pub entry_there : take 16 (drop (pos + (16 + 4 * c + size * c + 16 * n)) b) ≡ entry_name kind (list_at kind pos c b) n
-  entry_there = rw sized (sym (part_of_part (name_at kind c n) 16 pos (list_length kind c) b (omega arith)))
+-- where the datum of entry n stands, as the code computes it: its first four bytes, and so any fewer, are in the list
+pub datum_within : (kind : Kind) (c n : ℕ) {size : ℕ} → size ≡ datum_bytes kind → n < c → 16 + 4 * c + size * n + 4 ≤ list_length kind c
+datum_within Texture c n e h = rw e (omega arith)
+datum_within Palette c n e h = rw e (omega arith)

@@ -1,11 +1,10 @@
 -- Name lists. Assumes nothing.
 use Rattle.std.specs.Prelude.{ℕ, ◌+◌, ◌*◌, List, take, drop, eqb}
 use Rattle.util.specs.Number.{number_at}
-use Rattle.util.specs.Outcome.{Outcome, result}
 use Rattle.errors.specs.Refusal.{bad_dummy, bad_size}
 use Rattle.errors.specs.declared.Kind.{Kind}
 use Rattle.errors.specs.declared.Kind.TheVariants.{Texture, Palette}
-use Rattle.scripts.specs.Script.{Script, run, outcome_of, done, bytes_at, expect, ◌>>=◌, ◌>>◌}
+use Rattle.scripts.specs.Script.{Script, done, bytes_at, expect, ◌>>=◌, ◌>>◌}
 
 -- 01, "Records": "A texture datum has 8 bytes, .. a palette datum has 4".
 abbrev pub datum_bytes : Kind → ℕ
@@ -49,10 +48,6 @@ unfoldable pub name_list : (kind : Kind) (pos : ℕ) → Script NameList
 name_list kind pos = do
   head ← bytes_at pos 2
   whole_list kind pos (number_at 1 1 head)
-
--- What reading a list answers: how many entries it has.
-abbrev pub list_count : Script NameList → (block : List ℕ) → Outcome ℕ
-list_count s block = outcome_of (run s block) λ list. result list.count
 
 -- Entry i of a list: its name, and the number of the first `size` bytes of its datum.
 abbrev pub entry_name : (kind : Kind) → NameList → (i : ℕ) → List ℕ

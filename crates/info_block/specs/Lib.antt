@@ -1,1 +1,2 @@
 pub mod InfoBlock
+pub mod Lists

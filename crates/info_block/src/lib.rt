@@ -2,30 +2,26 @@
 
 #![tactic(auto)]
 
-ghost use Rattle.std.specs.Prelude.{◌≡◌, ◌+◌, ◌<◌, ◌≤◌, ◌^◌, length, take as first_bytes, drop};
-ghost use Rattle.errors.specs.Refusal.{result_outcome};
+ghost use Rattle.std.specs.Prelude.{◌≡◌, ◌+◌, ◌<◌, ◌^◌, IfOk};
+ghost use Rattle.util.specs.Outcome.{result as answered};
+ghost use Rattle.errors.specs.Refusal.{outcome_as};
+ghost use Rattle.scripts.specs.Script.{run, outcome_of};
 ghost use Rattle.info_block.specs.InfoBlock as InfoBlock;
+ghost use Rattle.info_block.specs.Lists.{listed};
+
+pub mod name_list;
 
 use errors::{Kind, Refusal};
-use name::Name;
+use name_list::{NameList, datum_size};
 use scripts::take;
 use util::unsigned::Unsigned;
 
-// The size of an entry's datum.
-fn datum_size(kind: Kind) -> usize
-    ensures { result ≡ InfoBlock.datum_bytes kind }
-{
-    match kind {
-        Kind::Texture => 8,
-        Kind::Palette => 4,
-    }
-}
-
 // Reads the list of c entries at pos whole, and checks it.
 #[tactic(auto, using(crate::proofs::Lists::reads))]
-fn read_whole(block: &[u8], kind: Kind, pos: usize, c: usize) -> Result<usize, Refusal>
+fn read_whole(block: &[u8], kind: Kind, pos: usize, c: usize) -> Result<NameList<'_>, Refusal>
     requires { (pos < 2 ^ 32) × (c < 2 ^ 8) }
-    ensures { result_outcome result ≡ InfoBlock.list_count (InfoBlock.whole_list kind pos c) block.now }
+    ensures value { outcome_as listed result ≡ outcome_of (run (InfoBlock.whole_list kind pos c) block.now) answered }
+    ensures of_kind { IfOk result (λ list. list.kind ≡ kind) }
 {
     let size = datum_size(kind);
     take(block, pos, 16 + 4 * c + size * c + 16 * c)?;
@@ -37,36 +33,17 @@ fn read_whole(block: &[u8], kind: Kind, pos: usize, c: usize) -> Result<usize, R
     if size_of_datum != size {
         return Err(Refusal::DatumSize(kind));
     }
-    Ok(c)
+    Ok(NameList::at(block, kind, pos, c))
 }
 
-// Reads the list at pos: its count, then the whole list, then its dummy and its datum size. Answers with the count.
+// Reads the list at pos: its count, then the whole list, then its dummy and its datum size.
 #[tactic(auto, using(crate::proofs::Lists::reads))]
-pub fn read(block: &[u8], kind: Kind, pos: u32) -> Result<usize, Refusal>
-    ensures { result_outcome result ≡ InfoBlock.list_count (InfoBlock.name_list kind pos) block.now }
+pub fn read(block: &[u8], kind: Kind, pos: u32) -> Result<NameList<'_>, Refusal>
+    ensures value { outcome_as listed result ≡ outcome_of (run (InfoBlock.name_list kind pos) block.now) answered }
+    ensures of_kind { IfOk result (λ list. list.kind ≡ kind) }
 {
     let pos = pos as usize;
     take(block, pos, 2)?;
     let c = u8::view(block, pos + 1) as usize;
     read_whole(block, kind, pos, c)
-}
-
-// The name of the 16 bytes at pos.
-fn name_at(block: &[u8], pos: usize) -> Name
-    requires { pos + 16 ≤ length block.now }
-    ensures { result.0 ≡ first_bytes 16 (drop pos block.now) }
-{
-    let mut bytes = [0u8; 16];
-    bytes.copy_from_slice(&block[pos..pos + 16]);
-    Name(bytes)
-}
-
-// The name of entry n of the list of c entries at pos.
-#[tactic(auto, using(crate::proofs::Lists::entry_within, crate::proofs::Lists::entry_there))]
-pub fn entry_name(block: &[u8], kind: Kind, pos: usize, c: usize, n: usize) -> Name
-    requires { (pos + InfoBlock.list_length kind c ≤ length block.now) × (n < c) }
-    ensures { result.0 ≡ InfoBlock.entry_name kind (InfoBlock.list_at kind pos c block.now) n }
-{
-    let size = datum_size(kind);
-    name_at(block, pos + (16 + 4 * c + size * c + 16 * n))
 }

@@ -18,3 +18,8 @@ second_at h w = h.compressed2_block_off + offset w / 2
 abbrev pub count_of : Kind → Layout → ℕ
 count_of kind.Texture l = l.textures
 count_of kind.Palette l = l.palettes
+
+-- Where the list of kind k begins: "`texture_off`", "`palette_off`".
+abbrev pub list_pos : Kind → Header → ℕ
+list_pos kind.Texture h = h.texture_off
+list_pos kind.Palette h = h.palette_off

@@ -2,14 +2,14 @@
 
 #![tactic(auto)]
 
-ghost use Rattle.std.specs.Prelude.{◌≡◌, ◌+◌, ◌*◌, ◌<◌, ◌≤◌, ◌^◌, length};
-ghost use Rattle.errors.specs.declared.Kind.TheVariants as kinds;
-ghost use Rattle.info_block.specs.InfoBlock.{list_at, list_length, entry_number};
+ghost use Rattle.std.specs.Prelude.{◌≡◌, ◌*◌, ◌<◌, ◌^◌};
+ghost use Rattle.info_block.specs.InfoBlock.{entry_number};
+ghost use Rattle.info_block.specs.Lists.{listed};
 ghost use Rattle.layout.specs.Positions as Positions;
 
 use errors::Kind;
+use info_block::name_list::Entry;
 use nds::texture_params::TextureParams;
-use util::unsigned::Unsigned;
 
 #[derive(Clone, Copy)]
 pub struct Header {
@@ -62,22 +62,29 @@ pub fn data2_pos(header: Header, params: TextureParams) -> usize
     header.compressed2_block_off as usize + offset / 2
 }
 
-// The word of texture n.
-#[tactic(auto, using(util::proofs::Numbers::number_in_part))]
-pub fn params_at(block: &[u8], pos: usize, count: usize, n: usize) -> TextureParams
-    requires { (pos + list_length kinds.Texture count ≤ length block.now) × (n < count) }
-    ensures { result.0 ≡ entry_number kinds.Texture 4 (list_at kinds.Texture pos count block.now) n }
+// The word of a texture, by its entry.
+pub fn params_at(texture: Entry) -> TextureParams
+    ensures { result.0 ≡ entry_number texture.entry.list.kind 4 (listed texture.entry.list) texture.entry.n }
 {
-    TextureParams(u32::view(block, pos + (16 + 4 * count + 8 * n)))
+    TextureParams(texture.number())
 }
 
-// The offset of palette n, in bytes.
-#[tactic(auto, using(util::proofs::Numbers::number_in_part))]
-pub fn off_at(block: &[u8], pos: usize, count: usize, n: usize) -> u32
-    requires { (pos + list_length kinds.Palette count ≤ length block.now) × (n < count) }
-    ensures { result ≡ 8 * entry_number kinds.Palette 2 (list_at kinds.Palette pos count block.now) n }
+// The offset of a palette, by its entry, in bytes.
+pub fn off_at(palette: Entry) -> u32
+    ensures { result ≡ 8 * entry_number palette.entry.list.kind 2 (listed palette.entry.list) palette.entry.n }
 {
-    8 * (u16::view(block, pos + (16 + 4 * count + 4 * n)) as u32)
+    let units: u16 = palette.number();
+    8 * u32::from(units)
+}
+
+// Where the list of the kind begins.
+pub fn list_pos(kind: Kind, header: Header) -> usize
+    ensures { result ≡ Positions.list_pos kind header }
+{
+    match kind {
+        Kind::Texture => header.texture_off as usize,
+        Kind::Palette => header.palette_off as usize,
+    }
 }
 
 // The length of the list of the kind.

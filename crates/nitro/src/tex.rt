@@ -1,25 +1,24 @@
 // TEX0 blocks: what a reading found, as counts, records and parts of the block.
 //
-// Each call reads the block, and then picks what it was asked for. Those by a layout are handed what a reading found, so that one reading serves
-// for many records.
-ghost use Rattle.std.specs.Prelude.{◌≡◌, ◌<◌};
+// Each call reads the block, and then picks what it was asked for. `texture_by` and `palette_by` are handed a block that was read, so that one
+// reading serves for many records.
+ghost use Rattle.std.specs.Prelude.{◌≡◌, ◌<◌, IfOk};
 ghost use Rattle.util.specs.Outcome.{result as answered};
 ghost use Rattle.scripts.specs.Script.{run};
-ghost use Rattle.reading.specs.Tex as Tex;
-ghost use Rattle.errors.specs.Refusal.{result_outcome};
-ghost use Rattle.reading.specs.Layouts.{LaidOut};
+ghost use Rattle.reading.specs.Tex.{read_tex as reading};
+ghost use Rattle.reading.specs.Blocks.{layout_in};
+ghost use Rattle.errors.specs.Refusal.{result_outcome, outcome_as};
 ghost use Rattle.nitro.specs.Calls as Calls;
 ghost use Rattle.nitro.specs.ByLayout as ByLayout;
 
 use cursor::part_at;
 use errors::{Kind, Refusal};
-use info_block::entry_name;
-use layout::{Header, Layout, count_of, data1_pos, data2_pos, off_at, pal_block_len, params_at};
+use layout::{Header, count_of, data1_pos, data2_pos, off_at, pal_block_len, params_at};
 use name::Name;
 use nds::texture_formats::Alpha;
 use nds::texture_params::TextureParams;
 use nds::wrap::Wrap;
-use reading::lay_out;
+use reading::tex::Tex;
 
 // How many textures and palettes a block has.
 #[derive(Clone, Copy)]
@@ -44,14 +43,15 @@ pub struct PaletteRecord {
     pub off: u32,
 }
 
-// The layout of a block whose list of the kind has an entry n.
+// The block, where its list of the kind has an entry n.
 #[tactic(auto, using(crate::proofs::Answers::answers))]
-fn find(block: &[u8], kind: Kind, n: usize) -> Result<Layout, Refusal>
-    ensures { result_outcome result ≡ ByLayout.layout_with kind n block.now (run Tex.read_tex block.now) }
+fn find(block: &[u8], kind: Kind, n: usize) -> Result<Tex<'_>, Refusal>
+    ensures value { outcome_as layout_in result ≡ ByLayout.layout_with kind n block.now (run reading block.now) }
+    ensures of_block { IfOk result (λ tex. tex.block ≡ block.entry) }
 {
-    let layout = lay_out(block)?;
-    if n < count_of(kind, layout) {
-        Ok(layout)
+    let tex = Tex::read(block)?;
+    if n < count_of(kind, tex.layout) {
+        Ok(tex)
     } else {
         Err(Refusal::Number(kind))
     }
@@ -90,104 +90,94 @@ pub fn no_palette() -> PaletteRecord
 // Reads the block: how many textures and palettes it has.
 #[tactic(auto, using(crate::proofs::Answers::answers))]
 pub fn read_tex(block: &[u8]) -> Result<Counts, Refusal>
-    ensures { result_outcome result ≡ Calls.reading_of (run Tex.read_tex block.now) }
+    ensures { result_outcome result ≡ Calls.reading_of (run reading block.now) }
 {
-    let layout = lay_out(block)?;
+    let layout = Tex::read(block)?.layout;
     Ok(Counts {
         textures: layout.textures,
         palettes: layout.palettes,
     })
 }
 
-// The record of texture n, by the block's layout.
+// The record of texture n of a block that was read.
 #[tactic(auto, using(crate::proofs::Answers::answers))]
-pub fn texture_by(block: &[u8], layout: Layout, n: usize) -> TextureRecord
-    requires { LaidOut block.now layout × (n < layout.textures) }
-    ensures { answered result ≡ Calls.texture_of n (run Tex.read_tex block.now) }
+pub fn texture_by(tex: Tex, n: usize) -> TextureRecord
+    requires { n < tex.layout.textures }
+    ensures { answered result ≡ Calls.texture_of n (run reading tex.entry.block.now) }
 {
-    let header = layout.header;
-    let pos = header.texture_off as usize;
-    let count = layout.textures;
-    let name = entry_name(block, Kind::Texture, pos, count, n);
-    let params = params_at(block, pos, count, n);
-    texture_record(name, params)
+    let entry = tex.list(Kind::Texture).entry(n);
+    texture_record(entry.name(), params_at(entry))
 }
 
 // The record of texture n.
 #[tactic(auto, using(crate::proofs::Answers::answers))]
 pub fn texture(block: &[u8], n: usize) -> Result<TextureRecord, Refusal>
-    ensures { result_outcome result ≡ Calls.texture_of n (run Tex.read_tex block.now) }
+    ensures { result_outcome result ≡ Calls.texture_of n (run reading block.now) }
 {
-    let layout = find(block, Kind::Texture, n)?;
-    Ok(texture_by(block, layout, n))
+    Ok(texture_by(find(block, Kind::Texture, n)?, n))
 }
 
-// The record of palette n, by the block's layout.
+// The record of palette n of a block that was read.
 #[tactic(auto, using(crate::proofs::Answers::answers))]
-pub fn palette_by(block: &[u8], layout: Layout, n: usize) -> PaletteRecord
-    requires { LaidOut block.now layout × (n < layout.palettes) }
-    ensures { answered result ≡ Calls.palette_of n (run Tex.read_tex block.now) }
+pub fn palette_by(tex: Tex, n: usize) -> PaletteRecord
+    requires { n < tex.layout.palettes }
+    ensures { answered result ≡ Calls.palette_of n (run reading tex.entry.block.now) }
 {
-    let header = layout.header;
-    let pos = header.palette_off as usize;
-    let count = layout.palettes;
-    let name = entry_name(block, Kind::Palette, pos, count, n);
-    let off = off_at(block, pos, count, n);
-    PaletteRecord { name, off }
+    let entry = tex.list(Kind::Palette).entry(n);
+    PaletteRecord {
+        name: entry.name(),
+        off: off_at(entry),
+    }
 }
 
 // The record of palette n.
 #[tactic(auto, using(crate::proofs::Answers::answers))]
 pub fn palette(block: &[u8], n: usize) -> Result<PaletteRecord, Refusal>
-    ensures { result_outcome result ≡ Calls.palette_of n (run Tex.read_tex block.now) }
+    ensures { result_outcome result ≡ Calls.palette_of n (run reading block.now) }
 {
-    let layout = find(block, Kind::Palette, n)?;
-    Ok(palette_by(block, layout, n))
+    Ok(palette_by(find(block, Kind::Palette, n)?, n))
 }
 
 // The header of a block that has texture n, and the texture's word: by these its data stand.
 #[tactic(auto, using(crate::proofs::Answers::answers))]
 fn find_word(block: &[u8], n: usize) -> Result<(Header, TextureParams), Refusal>
-    ensures { result_outcome result ≡ ByLayout.word_with n block.now (run Tex.read_tex block.now) }
+    ensures { result_outcome result ≡ ByLayout.word_with n block.now (run reading block.now) }
 {
-    let layout = find(block, Kind::Texture, n)?;
-    let header = layout.header;
-    let params = params_at(block, header.texture_off as usize, layout.textures, n);
-    Ok((header, params))
+    let tex = find(block, Kind::Texture, n)?;
+    let entry = tex.list(Kind::Texture).entry(n);
+    Ok((tex.layout.header, params_at(entry)))
 }
 
 // The data of texture n, or the first data of a block-compressed texture.
 #[tactic(auto, using(crate::proofs::Answers::answers))]
 pub fn texture_data1(block: &[u8], n: usize) -> &[u8]
-    ensures { result.now ≡ Calls.data1_of n (run Tex.read_tex block.now) }
+    ensures { result.now ≡ Calls.data1_of n (run reading block.now) }
 {
-    match find_word(block, n) {
-        Ok((header, params)) => part_at(block, data1_pos(header, params), params.byte_len()),
-        Err(_) => &block[..0],
-    }
+    let Ok((header, params)) = find_word(block, n) else {
+        return &[];
+    };
+    part_at(block, data1_pos(header, params), params.byte_len())
 }
 
 // The second data of texture n. Only a block-compressed texture has any.
 #[tactic(auto, using(crate::proofs::Answers::answers))]
 pub fn texture_data2(block: &[u8], n: usize) -> &[u8]
-    ensures { result.now ≡ Calls.data2_of n (run Tex.read_tex block.now) }
+    ensures { result.now ≡ Calls.data2_of n (run reading block.now) }
 {
-    match find_word(block, n) {
-        Ok((header, params)) => part_at(block, data2_pos(header, params), params.byte_len2()),
-        Err(_) => &block[..0],
-    }
+    let Ok((header, params)) = find_word(block, n) else {
+        return &[];
+    };
+    part_at(block, data2_pos(header, params), params.byte_len2())
 }
 
 // The palette block, which all palettes share.
 #[tactic(auto, using(crate::proofs::Answers::answers))]
 pub fn pal_block(block: &[u8]) -> &[u8]
-    ensures { result.now ≡ Calls.pal_block_of (run Tex.read_tex block.now) }
+    ensures { result.now ≡ Calls.pal_block_of (run reading block.now) }
 {
-    match lay_out(block) {
-        Ok(layout) => {
-            let header = layout.header;
-            part_at(block, header.pal_block_off as usize, pal_block_len(header))
-        }
-        Err(_) => &block[..0],
-    }
+    let Ok(tex) = Tex::read(block) else {
+        return &[];
+    };
+    let header = tex.layout.header;
+    part_at(block, header.pal_block_off as usize, pal_block_len(header))
 }

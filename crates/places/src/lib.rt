@@ -2,26 +2,33 @@
 
 #![tactic(auto)]
 
-ghost use Rattle.std.specs.Prelude.{◌≡◌, ◌+◌, ◌<◌, ◌≤◌, length};
+ghost use Rattle.std.specs.Prelude.{◌≡◌};
 ghost use Rattle.errors.specs.Refusal.{result_outcome};
-ghost use Rattle.errors.specs.declared.Kind.TheVariants as kinds;
 ghost use Rattle.scripts.specs.Script.{run};
-ghost use Rattle.info_block.specs.InfoBlock.{list_length};
-ghost use Rattle.reading.specs.Tex as Tex;
-ghost use Rattle.reading.specs.Layouts.{LaidOut};
+ghost use Rattle.reading.specs.Tex.{read_tex};
 ghost use Rattle.places.specs.Sources as Sources;
 ghost use Rattle.places.specs.ByLayout as ByLayout;
 
+use cursor::part_at;
 use errors::{Kind, Refusal};
-use layout::{Header, Layout, data1_pos, data2_pos, off_at, pal_block_len, params_at};
+use layout::{Header, data1_pos, data2_pos, off_at, pal_block_len, params_at};
 use nds::texture_params::TextureParams;
-use reading::lay_out;
+use reading::tex::Tex;
 
 // A part of a block: len bytes at pos.
 #[derive(Clone, Copy)]
 pub struct Place {
     pub pos: usize,
     pub len: usize,
+}
+
+impl Place {
+    // The part of the block at the place, or the empty part where the block does not have it.
+    pub fn part(self, block: &[u8]) -> &[u8]
+        ensures { result.now ≡ Sources.part_at block.now self }
+    {
+        part_at(block, self.pos, self.len)
+    }
 }
 
 // What a picture is made from, and where in the block it is.
@@ -48,36 +55,30 @@ fn pal_place_at(header: Header) -> Place
 // Where the palette block is.
 #[tactic(auto, using(crate::proofs::Sources::finds))]
 pub fn pal_place(block: &[u8]) -> Result<Place, Refusal>
-    ensures { result_outcome result ≡ Sources.pal_place_of block.now (run Tex.read_tex block.now) }
+    ensures { result_outcome result ≡ Sources.pal_place_of block.now (run read_tex block.now) }
 {
-    let layout = lay_out(block)?;
-    Ok(pal_place_at(layout.header))
+    let tex = Tex::read(block)?;
+    Ok(pal_place_at(tex.layout.header))
 }
 
 // The offset of the palette that is chosen, if one is.
 #[tactic(auto, unfolding(crate::specs::ByLayout::chosen_by))]
-fn chosen_off(block: &[u8], layout: Layout, choice: Option<usize>) -> Result<Option<u32>, Refusal>
-    requires { layout.header.palette_off + list_length kinds.Palette layout.palettes ≤ length block.now }
-    ensures { result_outcome result ≡ ByLayout.chosen_by block.now layout choice }
+fn chosen_off(tex: Tex, choice: Option<usize>) -> Result<Option<u32>, Refusal>
+    ensures { result_outcome result ≡ ByLayout.chosen_by tex.entry.block.now tex.entry.layout choice }
 {
-    match choice {
-        None => Ok(None),
-        Some(k) if k < layout.palettes => {
-            let pos = layout.header.palette_off as usize;
-            Ok(Some(off_at(block, pos, layout.palettes, k)))
-        }
-        Some(_) => Err(Refusal::Number(Kind::Palette)),
+    let Some(k) = choice else {
+        return Ok(None);
+    };
+    if k >= tex.layout.palettes {
+        return Err(Refusal::Number(Kind::Palette));
     }
+    Ok(Some(off_at(tex.list(Kind::Palette).entry(k))))
 }
 
-// The places of texture n by the block's layout, beside a palette's offset.
-#[tactic(auto, unfolding(crate::specs::ByLayout::places_by))]
-pub fn places_of(block: &[u8], layout: Layout, n: usize, palette: Option<u32>) -> Places
-    requires { (layout.header.texture_off + list_length kinds.Texture layout.textures ≤ length block.now) × (n < layout.textures) }
-    ensures { result ≡ ByLayout.places_by block.now layout n palette }
+// The places of a texture by its word, beside a palette's offset.
+pub fn places_of(header: Header, params: TextureParams, palette: Option<u32>) -> Places
+    ensures { result ≡ Sources.places_at header params.0 palette }
 {
-    let header = layout.header;
-    let params = params_at(block, header.texture_off as usize, layout.textures, n);
     Places {
         params,
         data1: Place {
@@ -93,29 +94,23 @@ pub fn places_of(block: &[u8], layout: Layout, n: usize, palette: Option<u32>) -
     }
 }
 
-// Where in the block all that a picture of texture n with the chosen palette is made from is, by the block's layout: one reading serves for many
-// pictures.
-#[tactic(auto, using(crate::proofs::Sources::finds))]
-pub fn locate_by(
-    block: &[u8],
-    layout: Layout,
-    n: usize,
-    choice: Option<usize>,
-) -> Result<Places, Refusal>
-    requires { LaidOut block.now layout }
-    ensures { result_outcome result ≡ Sources.places_of n choice block.now (run Tex.read_tex block.now) }
+// Where in a block that was read all that a picture of texture n with the chosen palette is made from is: one reading serves for many pictures.
+#[tactic(auto, using(crate::proofs::Sources::finds), unfolding(crate::specs::ByLayout::places_by))]
+pub fn locate_by(tex: Tex, n: usize, choice: Option<usize>) -> Result<Places, Refusal>
+    ensures { result_outcome result ≡ Sources.places_of n choice tex.entry.block.now (run read_tex tex.entry.block.now) }
 {
-    if n >= layout.textures {
+    if n >= tex.layout.textures {
         return Err(Refusal::Number(Kind::Texture));
     }
-    let palette = chosen_off(block, layout, choice)?;
-    Ok(places_of(block, layout, n, palette))
+    let palette = chosen_off(tex, choice)?;
+    let params = params_at(tex.list(Kind::Texture).entry(n));
+    Ok(places_of(tex.layout.header, params, palette))
 }
 
 // Where in the block all that a picture of texture n with the chosen palette is made from is.
 #[tactic(auto, using(crate::proofs::Sources::finds))]
 pub fn locate(block: &[u8], n: usize, choice: Option<usize>) -> Result<Places, Refusal>
-    ensures { result_outcome result ≡ Sources.places_of n choice block.now (run Tex.read_tex block.now) }
+    ensures { result_outcome result ≡ Sources.places_of n choice block.now (run read_tex block.now) }
 {
-    locate_by(block, lay_out(block)?, n, choice)
+    locate_by(Tex::read(block)?, n, choice)
 }

@@ -25,7 +25,7 @@ use Rattle.errors.specs.declared.Refusal.TheVariants.{Stamp}
 use Rattle.errors.proofs.Refusals as refusals
 use Rattle.errors.specs.declared.Kind.TheVariants as kinds
 use Rattle.scripts.specs.Script.{Script, done, fault, whole, run, outcome_of, passing, bytes_at, each, each_from}
-use Rattle.info_block.specs.InfoBlock.{NameList, list_count, list_at, list_length, name_list, entry_name, entry_number}
+use Rattle.info_block.specs.InfoBlock.{NameList, list_at, list_length, name_list, entry_name, entry_number}
 use Rattle.reading.specs.Tex as Tex
 use Rattle.reading.specs.Tex.{Contents, has_stamp, header_of, palette_at, read_header, read_pal_block, read_second, read_data}
 use Rattle.layout.specs.Positions.{data_at, second_at}
@@ -35,7 +35,7 @@ use Rattle.layout.specs.declared.Header.{Header}
 use Rattle.scripts.proofs.Runs.{take_within, whole_outcome, fault_outcome, ended, refused, each_turn, each_none, each_follows, follows_trans}
 use Rattle.scripts.proofs.Runs.{onward, both, bytes_in, bytes_whole, expect_met, expect_failed, expect_held, expected, outcome_map, outcome_bind}
 use Rattle.scripts.proofs.Runs.{outcome_same, each_count, each_done, each_length, each_at, Follows, follows_bind, follows_onward}
-use Rattle.info_block.proofs.Lists.{name_listed, list_counted}
+use Rattle.info_block.proofs.Lists.{name_listed, list_read}
 
 -- the stamp, where it stands in the block
 pub stamp_there : (b : List ℕ) → has_stamp (take 60 b) ≡ has_stamp b
@@ -343,46 +343,52 @@ module _ (h : Header) (w : ℕ) (b : List ℕ) where
 
 -- the texture list
 module _ (h : Header) (b : List ℕ) where
-  pub textures_refused : (r : Refusal) → refusal_outcome r ≡ list_count (name_list kinds.Texture h.texture_off) b
+  pub textures_refused : (r : Refusal) → refusal_outcome r ≡ outcome_of (run (name_list kinds.Texture h.texture_off) b) result
       → refusal_outcome r ≡ counting (read_textures h) b
-  textures_refused r e = refused _ _ (textures_follow h b) _ _ r e
+  textures_refused r e = refused _ _ (textures_follow h b) (λ list. list) _ r e
 
-  module _ {n : ℕ} (counted : result n ≡ list_count (name_list kinds.Texture h.texture_off) b) where
-    pub textures_within : h.texture_off + list_length kinds.Texture n ≤ length b
-    textures_within = (name_listed kinds.Texture _ b (list_counted kinds.Texture _ b counted)).within
+  pub textures_counted : {list : NameList} {c : ℕ} → c ≡ list.count → result list ≡ outcome_of (run (name_list kinds.Texture h.texture_off) b) result
+      → counting (each_texture h c list) b ≡ counting (read_textures h) b
+  textures_counted q e = rw q (ap (λ x. outcome_of x (λ found. result (length found))) (textures_read h b (list_read kinds.Texture _ b e)))
 
-    pub textures_counted : counting (each_texture h n b) b ≡ counting (read_textures h) b
-    textures_counted = ap (λ x. outcome_of x (λ found. result (length found))) (textures_read h b (list_counted kinds.Texture _ b counted))
+-- the palette list
+module _ (h : Header) (b : List ℕ) where
+  pub palettes_refused : (r : Refusal) → refusal_outcome r ≡ outcome_of (run (name_list kinds.Palette h.palette_off) b) result
+      → refusal_outcome r ≡ counting (read_palettes h) b
+  unfolding read_palettes
+  palettes_refused r e = refused _ _ (follows_bind (name_list kinds.Palette h.palette_off) _ b) (λ list. list) _ r e
+
+  pub palettes_counted : {list : NameList} → result list ≡ outcome_of (run (name_list kinds.Palette h.palette_off) b) result
+      → result list.count ≡ counting (read_palettes h) b
+  palettes_counted e = whole_outcome (λ list. result list.count) (list_read kinds.Palette _ b e) ∙ palettes_read h b
 
 -- the textures of a list, one after another: the outcome of n of them from i on
-module _ (b : List ℕ) (h : Header) (count : ℕ) where
-  abbrev pub texture_script : ℕ → Script Tex.Texture
-  texture_script i = read_texture h (list_at kinds.Texture h.texture_off count b) i
-
+module _ (b : List ℕ) (h : Header) (count : ℕ) (list : NameList) where
   abbrev pub row : (i n : ℕ) → Outcome ℕ
-  row i n = outcome_of (run (each_from i n texture_script) b) (λ _. result count)
+  row i n = outcome_of (run (each_from i n (read_texture h list)) b) (λ _. result count)
 
-  pub row_start : row 0 (count - 0) ≡ counting (each_texture h count b) b
+  pub row_start : row 0 (count - 0) ≡ counting (each_texture h count list) b
   row_start = let e : count - 0 ≡ count = omega arith in ap (row 0) e ∙ each_count _ _ count
 
   pub row_end : (i : ℕ) → count ≤ i → result count ≡ row i (count - i)
-  row_end i l = let e : 0 ≡ count - i = omega arith in each_none texture_script b i count ∙ ap (row i) e
+  row_end i l = let e : 0 ≡ count - i = omega arith in each_none (read_texture h list) b i count ∙ ap (row i) e
 
   module _ (i : ℕ) (l : i < count) where
     unrolled : row i (suc (count - (i + 1))) ≡ row i (count - i)
     unrolled = let e : suc (count - (i + 1)) ≡ count - i = omega arith in ap (row i) e
 
-    pub row_refused : (w : ℕ) → w ≡ entry_number kinds.Texture 4 (list_at kinds.Texture h.texture_off count b) i → (r : Refusal)
+    pub row_refused : (w : ℕ) → w ≡ entry_number kinds.Texture 4 list i → (r : Refusal)
         → refusal_outcome r ≡ passing (read_data h w) b → refusal_outcome r ≡ row i (count - i)
     row_refused w q r e =
-        refused _ _ (follows_trans (texture_follows h _ i b) (each_follows texture_script b i (count - (i + 1)))) _ _ r (rw q at e) ∙ unrolled
+        refused _ _ (follows_trans (texture_follows h list i b) (each_follows (read_texture h list) b i (count - (i + 1)))) _ _ r (rw q at e)
+        ∙ unrolled
 
-    pub row_turn : (w : ℕ) → w ≡ entry_number kinds.Texture 4 (list_at kinds.Texture h.texture_off count b) i
+    pub row_turn : (w : ℕ) → w ≡ entry_number kinds.Texture 4 list i
         → result (tt {0}) ≡ passing (read_data h w) b → row (i + 1) (count - (i + 1)) ≡ row i (count - i)
     row_turn w q e =
         let there = ended _ _ (rw q at e) in
         ap (λ k. row k (count - (i + 1))) (add-one i)
-        ∙ (sym (each_turn texture_script b i (count - (i + 1)) count (texture_read h _ i b there.is)) ∙ unrolled)
+        ∙ (sym (each_turn (read_texture h list) b i (count - (i + 1)) count (texture_read h list i b there.is)) ∙ unrolled)
 
 -- the whole block, by how far the reading came
 module _ (b : List ℕ) where
@@ -426,6 +432,7 @@ module _ (b : List ℕ) where
 -- for the functions that read the header, the data and the lists
 pub ruleset reads = (
   refusals.passed_on,
+  refusals.passed_as,
   take_within,
   data_length_lt,
   second_length_lt,
@@ -437,9 +444,9 @@ pub ruleset reads = (
   second_asked,
   second_left,
   textures_refused,
-  textures_within,
   textures_counted,
-  palettes_read,
+  palettes_refused,
+  palettes_counted,
 )
 
 -- for those that go through the textures, and through the block

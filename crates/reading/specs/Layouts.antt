@@ -1,9 +1,8 @@
 -- What `lay_out` answers with: the layout, which is the header and both counts; and what the functions below it hand on. Assumes nothing.
 use Rattle.std.specs.Prelude.{ℕ, ◌≡◌, List, length, take}
 use Rattle.util.specs.Outcome.{Outcome, result}
-use Rattle.errors.specs.declared.Kind.TheVariants as kind
 use Rattle.scripts.specs.Script.{Script, Answer, run, outcome_of, each}
-use Rattle.info_block.specs.InfoBlock.{list_at}
+use Rattle.info_block.specs.InfoBlock.{NameList}
 use Rattle.reading.specs.Tex.{Texture, Contents, header_of, read_texture, read_tex}
 use Rattle.layout.specs.declared.Header.{Header}
 use Rattle.layout.specs.declared.Layout.{Layout}
@@ -12,9 +11,9 @@ use Rattle.layout.specs.declared.Layout.{Layout}
 abbrev pub counting : {A : Type 0} → Script (List A) → (block : List ℕ) → Outcome ℕ
 counting s block = outcome_of (run s block) λ found. result (length found)
 
--- The textures of a list of c entries that stands in the block.
-abbrev pub each_texture : Header → (c : ℕ) (block : List ℕ) → Script (List Texture)
-each_texture h c block = each c (read_texture h (list_at kind.Texture h.texture_off c block))
+-- The first c textures of a list.
+abbrev pub each_texture : Header → (c : ℕ) → NameList → Script (List Texture)
+each_texture h c list = each c (read_texture h list)
 
 abbrev pub layout_of : (block : List ℕ) → Contents → Layout
 layout_of block c = record {

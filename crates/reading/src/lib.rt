@@ -4,16 +4,19 @@
 
 #![tactic(auto)]
 
-ghost use Rattle.std.specs.Prelude.{◌≡◌, ◌+◌, ◌≤◌, length, take as first_bytes};
+ghost use Rattle.std.specs.Prelude.{◌≡◌, ◌≤◌, length, take as first_bytes};
 ghost use Rattle.util.specs.Outcome.{result as answered};
 ghost use Rattle.errors.specs.Refusal.{result_outcome};
 ghost use Rattle.errors.specs.declared.Kind.TheVariants as kinds;
 ghost use Rattle.scripts.specs.Script.{run, outcome_of, passing};
-ghost use Rattle.info_block.specs.InfoBlock.{list_length};
+ghost use Rattle.info_block.specs.Lists.{listed};
 ghost use Rattle.reading.specs.Tex as Tex;
 ghost use Rattle.reading.specs.Layouts as Layouts;
 
+pub mod tex;
+
 use errors::{Kind, Refusal};
+use info_block::name_list::NameList;
 use layout::{Header, Layout, data1_pos, data2_pos, pal_block_len, params_at};
 use nds::texture_params::TextureParams;
 use scripts::take;
@@ -88,17 +91,16 @@ fn take_data(block: &[u8], header: Header, params: TextureParams) -> Result<(), 
     take_data2(block, header, params)
 }
 
-// Whether the data of all textures are there, in list order.
+// Whether the data of all textures of a list are there, in list order.
 #[tactic(auto, using(crate::proofs::Readings::goes))]
-fn take_all_data(block: &[u8], header: Header, count: usize) -> Result<usize, Refusal>
-    requires { header.texture_off + list_length kinds.Texture count ≤ length block.now }
-    ensures { result_outcome result ≡ Layouts.counting (Layouts.each_texture header count block.now) block.now }
+fn take_all_data(block: &[u8], header: Header, list: NameList) -> Result<usize, Refusal>
+    requires { list.kind ≡ kinds.Texture }
+    ensures { result_outcome result ≡ Layouts.counting (Layouts.each_texture header list.entry.count (listed list.entry)) block.now }
 {
-    let pos = header.texture_off as usize;
-    for i in 0..count {
-        take_data(block, header, params_at(block, pos, count, i))?;
+    for i in 0..list.count {
+        take_data(block, header, params_at(list.entry(i)))?;
     }
-    Ok(count)
+    Ok(list.count)
 }
 
 // Reads the texture list, and then each texture's data.
@@ -106,8 +108,8 @@ fn take_all_data(block: &[u8], header: Header, count: usize) -> Result<usize, Re
 fn read_textures(block: &[u8], header: Header) -> Result<usize, Refusal>
     ensures { result_outcome result ≡ Layouts.counting (Tex.read_textures header) block.now }
 {
-    let count = info_block::read(block, Kind::Texture, header.texture_off as u32)?;
-    take_all_data(block, header, count)
+    let list = info_block::read(block, Kind::Texture, header.texture_off as u32)?;
+    take_all_data(block, header, list)
 }
 
 // Reads the palette list.
@@ -115,7 +117,8 @@ fn read_textures(block: &[u8], header: Header) -> Result<usize, Refusal>
 fn read_palettes(block: &[u8], header: Header) -> Result<usize, Refusal>
     ensures { result_outcome result ≡ Layouts.counting (Tex.read_palettes header) block.now }
 {
-    info_block::read(block, Kind::Palette, header.palette_off)
+    let list = info_block::read(block, Kind::Palette, header.palette_off)?;
+    Ok(list.count)
 }
 
 // Reads the block: header, palette block, textures, palettes.

@@ -9,14 +9,14 @@ ghost use Rattle.errors.specs.declared.Kind.TheVariants as kinds;
 ghost use Rattle.output.specs.Output.{Writes, pieces};
 ghost use Rattle.scripts.specs.Script.{run};
 ghost use Rattle.layout.specs.Positions.{count_of};
-ghost use Rattle.reading.specs.Tex as Tex;
+ghost use Rattle.reading.specs.Tex.{read_tex};
 ghost use Rattle.rows.specs.ByLayout as ByLayout;
 ghost use Rattle.rows.specs.Rows as Rows;
 
 use errors::{Kind, Refusal};
-use layout::{Layout, count_of, off_at};
+use layout::{count_of, off_at, params_at};
 use places::{Place, places_of};
-use reading::lay_out;
+use reading::tex::Tex;
 
 // How many numbers the row of an entry has.
 fn row_len(kind: Kind) -> usize
@@ -36,15 +36,16 @@ fn told_pos(place: Place) -> usize
 }
 
 // The row of texture n: where its name begins, its word, and the places of its data.
-#[tactic(auto, unfolding(crate::specs::ByLayout::row_by))]
-fn texture_row(block: &[u8], layout: Layout, n: usize) -> [usize; 6]
-    requires { (ByLayout.list_end kinds.Texture layout ≤ length block.now) × (n < layout.textures) }
-    ensures { result ≡ ByLayout.row_by kinds.Texture block.now layout n }
+#[tactic(auto, unfolding(crate::specs::ByLayout::row_by, places::specs::ByLayout::places_by))]
+fn texture_row(tex: Tex, n: usize) -> [usize; 6]
+    requires { n < tex.layout.textures }
+    ensures { result ≡ ByLayout.row_by kinds.Texture tex.entry.block.now tex.entry.layout n }
 {
-    let count = layout.textures;
-    let places = places_of(block, layout, n, None);
+    let header = tex.layout.header;
+    let list = tex.list(Kind::Texture);
+    let places = places_of(header, params_at(list.entry(n)), None);
     [
-        layout.header.texture_off as usize + (16 + 4 * count + 8 * count + 16 * n),
+        header.texture_off as usize + list.name_pos(n),
         places.params.0 as usize,
         told_pos(places.data1),
         places.data1.len,
@@ -55,15 +56,14 @@ fn texture_row(block: &[u8], layout: Layout, n: usize) -> [usize; 6]
 
 // The row of palette n: where its name begins, and its offset.
 #[tactic(auto, unfolding(crate::specs::ByLayout::row_by))]
-fn palette_row(block: &[u8], layout: Layout, n: usize) -> [usize; 2]
-    requires { (ByLayout.list_end kinds.Palette layout ≤ length block.now) × (n < layout.palettes) }
-    ensures { result ≡ ByLayout.row_by kinds.Palette block.now layout n }
+fn palette_row(tex: Tex, n: usize) -> [usize; 2]
+    requires { n < tex.layout.palettes }
+    ensures { result ≡ ByLayout.row_by kinds.Palette tex.entry.block.now tex.entry.layout n }
 {
-    let pos = layout.header.palette_off as usize;
-    let count = layout.palettes;
+    let list = tex.list(Kind::Palette);
     [
-        pos + (16 + 4 * count + 4 * count + 16 * n),
-        off_at(block, pos, count, n) as usize,
+        tex.layout.header.palette_off as usize + list.name_pos(n),
+        off_at(list.entry(n)) as usize,
     ]
 }
 
@@ -77,25 +77,25 @@ fn put_row<const N: usize>(rows: &mut [usize], at: usize, row: [usize; N])
 }
 
 // Puts the row of entry n.
-fn put_entry(rows: &mut [usize], at: usize, block: &[u8], kind: Kind, layout: Layout, n: usize)
-    requires { (at + ByLayout.row_length kind ≤ length rows.old) × ((ByLayout.list_end kind layout ≤ length block.now) × (n < count_of kind layout)) }
-    ensures { rows.new ≡ sets rows.old at (ByLayout.row_by kind block.now layout n) }
+fn put_entry(rows: &mut [usize], at: usize, tex: Tex, kind: Kind, n: usize)
+    requires { (at + ByLayout.row_length kind ≤ length rows.old) × (n < count_of kind tex.layout) }
+    ensures { rows.new ≡ sets rows.old at (ByLayout.row_by kind tex.entry.block.now tex.entry.layout n) }
 {
     match kind {
-        Kind::Texture => put_row(rows, at, texture_row(block, layout, n)),
-        Kind::Palette => put_row(rows, at, palette_row(block, layout, n)),
+        Kind::Texture => put_row(rows, at, texture_row(tex, n)),
+        Kind::Palette => put_row(rows, at, palette_row(tex, n)),
     }
 }
 
 // Puts the rows of all entries.
 #[tactic(auto, using(crate::proofs::Entries::row_behind), unfolding(output::specs::Output::pieces))]
-fn put_rows(rows: &mut [usize], block: &[u8], kind: Kind, layout: Layout)
-    requires { (count_of kind layout * ByLayout.row_length kind ≤ length rows.old) × (ByLayout.list_end kind layout ≤ length block.now) }
-    ensures { rows.new ≡ sets rows.old 0 (pieces (ByLayout.row_by kind block.now layout) (count_of kind layout)) }
+fn put_rows(rows: &mut [usize], tex: Tex, kind: Kind)
+    requires { count_of kind tex.layout * ByLayout.row_length kind ≤ length rows.old }
+    ensures { rows.new ≡ sets rows.old 0 (pieces (ByLayout.row_by kind tex.entry.block.now tex.entry.layout) (count_of kind tex.entry.layout)) }
 {
     let len = row_len(kind);
-    for n in 0..count_of(kind, layout) {
-        put_entry(rows, n * len, block, kind, layout, n);
+    for n in 0..count_of(kind, tex.layout) {
+        put_entry(rows, n * len, tex, kind, n);
     }
 }
 
@@ -104,13 +104,13 @@ fn put_rows(rows: &mut [usize], block: &[u8], kind: Kind, layout: Layout)
 // has two: where its name begins, and its offset in bytes.
 #[tactic(auto, using(crate::proofs::Entries::writes_rows))]
 pub fn rows(block: &[u8], kind: Kind, out: &mut [usize]) -> Result<usize, Refusal>
-    ensures { Writes (Rows.rows_of kind block.now (run Tex.read_tex block.now)) out.old (result_outcome result) out.new }
+    ensures { Writes (Rows.rows_of kind block.now (run read_tex block.now)) out.old (result_outcome result) out.new }
 {
-    let layout = lay_out(block)?;
-    let len = count_of(kind, layout) * row_len(kind);
+    let tex = Tex::read(block)?;
+    let len = count_of(kind, tex.layout) * row_len(kind);
     if out.len() < len {
         return Err(Refusal::Output);
     }
-    put_rows(out, block, kind, layout);
+    put_rows(out, tex, kind);
     Ok(len)
 }

@@ -29,6 +29,8 @@ pub trait Unsigned: Copy + Into<u32> {
     // Each of the types goes into u32.
     ghost narrow: { BITS ≤ 32 };
 
+    ghost short: { SIZE ≤ 4 };
+
     ghost into_law: { (x : Self) (n : ℕ) → Self.converts x n → n ≡ number x };
 }
 
@@ -53,6 +55,8 @@ impl Unsigned for u8 {
     }
 
     ghost narrow = { lit≤ tt };
+
+    ghost short = { lit≤ tt };
 
     ghost into_law = { λ x n h. h };
 }
@@ -79,6 +83,8 @@ impl Unsigned for u16 {
 
     ghost narrow = { lit≤ tt };
 
+    ghost short = { lit≤ tt };
+
     ghost into_law = { λ x n h. h };
 }
 
@@ -103,6 +109,8 @@ impl Unsigned for u32 {
     }
 
     ghost narrow = { lit≤ tt };
+
+    ghost short = { lit≤ tt };
 
     ghost into_law = { λ x n h. h };
 }

@@ -6,4 +6,4 @@ use Rattle.rows.specs.ByLayout.{row_by}
 use Rattle.rows.proofs.put_rows.Given as goal
 
 abbrev pub invariant-loop-n : goal.invariant-loop-n
-invariant-loop-n l = l.rows ≡ sets l.initial.rows 0 (pieces (row_by l.kind l.block l.layout) l.n)
+invariant-loop-n l = l.rows ≡ sets l.initial.rows 0 (pieces (row_by l.kind l.tex.block.now l.tex.layout) l.n)

@@ -1,0 +1,108 @@
+// A name list that a block has, and its entries.
+ghost use Rattle.std.specs.Prelude.{◌≡◌, ◌+◌, ◌*◌, ◌<◌, ◌≤◌, length, take as first_bytes, drop};
+ghost use Rattle.info_block.specs.InfoBlock.{datum_bytes, list_length};
+
+use errors::Kind;
+use name::Name;
+use util::unsigned::Unsigned;
+
+// The size of an entry's datum.
+pub(crate) fn datum_size(kind: Kind) -> usize
+    ensures { result ≡ datum_bytes kind }
+{
+    match kind {
+        Kind::Texture => 8,
+        Kind::Palette => 4,
+    }
+}
+
+// The name of the 16 bytes at pos.
+fn name_at(bytes: &[u8], pos: usize) -> Name
+    requires { pos + 16 ≤ length bytes.now }
+    ensures { result.0 ≡ first_bytes 16 (drop pos bytes.now) }
+{
+    let mut name = [0u8; 16];
+    name.copy_from_slice(&bytes[pos..pos + 16]);
+    Name(name)
+}
+
+// A list of count entries, whole.
+#[derive(Clone, Copy)]
+pub struct NameList<'a> {
+    pub kind: Kind,
+    pub count: usize,
+    pub bytes: &'a [u8],
+    pub ghost whole: { length bytes.now ≡ list_length kind count },
+}
+
+// An entry of a list, by its number.
+#[derive(Clone, Copy)]
+pub struct Entry<'a> {
+    pub list: NameList<'a>,
+    pub n: usize,
+    pub ghost below: { n < list.count },
+}
+
+impl<'a> NameList<'a> {
+    ghost use Rattle.std.specs.Prelude.{Option, None, Some};
+    ghost use Rattle.info_block.specs.InfoBlock.{list_at, datum_at, name_at as place_of_name};
+    ghost use Rattle.info_block.specs.Lists.{listed};
+
+    // The list of count entries at pos.
+    pub fn at(block: &'a [u8], kind: Kind, pos: usize, count: usize) -> NameList<'a>
+        requires { pos + list_length kind count ≤ length block.now }
+        ensures value { listed result ≡ list_at kind pos count block.now }
+        ensures of_kind { result.kind ≡ kind }
+    {
+        let len = 16 + 4 * count + datum_size(kind) * count + 16 * count;
+        NameList {
+            kind,
+            count,
+            bytes: &block[pos..pos + len],
+        }
+    }
+
+    // Where name n begins, from the list's start.
+    pub fn name_pos(self, n: usize) -> usize
+        requires { n < self.count }
+        ensures { result ≡ place_of_name self.entry.kind self.entry.count n }
+    {
+        16 + 4 * self.count + datum_size(self.kind) * self.count + 16 * n
+    }
+
+    // Where the datum of entry n begins, from the list's start.
+    #[tactic(auto, using(crate::proofs::Lists::datum_within))]
+    fn datum_pos(self, n: usize) -> usize
+        requires { n < self.count }
+        ensures { (result ≡ datum_at self.entry.kind self.entry.count n) × (result + 4 ≤ length self.entry.bytes.now) }
+    {
+        16 + 4 * self.count + datum_size(self.kind) * n
+    }
+
+    // Entry n.
+    pub fn entry(self, n: usize) -> Entry<'a>
+        requires { n < self.count }
+        ensures { (result.list ≡ self.entry) × (result.n ≡ n) }
+    {
+        Entry { list: self, n }
+    }
+}
+
+impl<'a> Entry<'a> {
+    ghost use Rattle.info_block.specs.InfoBlock.{entry_name, entry_number};
+    ghost use Rattle.info_block.specs.Lists.{listed};
+
+    // Its name.
+    pub fn name(self) -> Name
+        ensures { result.0 ≡ entry_name self.entry.list.kind (listed self.entry.list) self.entry.n }
+    {
+        name_at(self.list.bytes, self.list.name_pos(self.n))
+    }
+
+    // The number that the first bytes of its datum are, as many as the type has.
+    pub fn number<T: Unsigned>(self) -> T
+        ensures { T.number result ≡ entry_number self.entry.list.kind T.SIZE (listed self.entry.list) self.entry.n }
+    {
+        T::view(self.list.bytes, self.list.datum_pos(self.n))
+    }
+}
