@@ -1,11 +1,14 @@
 -- The laws of a texture word's sizes. Assumes nothing.
-use Prim.Native.Nat.{ℕ, zero, suc, ◌*◌, ◌%◌, ◌^◌, ◌≤◌, ◌<◌}
+use Prim.Native.Nat.{ℕ, ◌*◌, ◌%◌, ◌^◌, ◌≤◌, ◌<◌}
 use mathlib.Core.Path.{◌≡◌, refl}
+use mathlib.Core.List.{[], ◌∷◌}
 use mathlib.Core.Bool.{Bool, true, false}
 use native.Mathlib.Omega.{arith}
 use native.Mathlib.Nat.{le_of_lt, lt_of_le_of_lt, mul-le-mul, mul-le-mul_left}
 use lib.Dec.{lit<, eqb}
 use lib.Pow.{pow_mono, shl_exact}
+use Rattle.std.proofs.Common.{rules}
+use Rattle.std.proofs.lemmas.List.Elements.{All-get_or}
 use Rattle.nds.specs.Params.{width, height, format}
 use Rattle.nds.specs.Formats.{bits_per_texel, data_length, second_length}
 
@@ -42,22 +45,15 @@ module _ (w : ℕ) where
   pub bits_fit : {bpp : ℕ} → bpp < 2 ^ 8 → width w * height w * bpp < 2 ^ 32
   bits_fit h = bits_lt (width_le w) (height_le w) h
 
-bits_small : (f : ℕ) → bits_per_texel f < 2 ^ 8
-bits_small zero = lit< tt
-bits_small (suc zero) = lit< tt
-bits_small (suc (suc zero)) = lit< tt
-bits_small (suc (suc (suc zero))) = lit< tt
-bits_small (suc (suc (suc (suc zero)))) = lit< tt
-bits_small (suc (suc (suc (suc (suc zero))))) = lit< tt
-bits_small (suc (suc (suc (suc (suc (suc zero)))))) = lit< tt
-bits_small (suc (suc (suc (suc (suc (suc (suc zero))))))) = lit< tt
-bits_small (suc (suc (suc (suc (suc (suc (suc (suc f)))))))) = lit< tt
+-- the bits of a texel fit a byte
+bits_small : (w : ℕ) → bits_per_texel (format w) < 2 ^ 8
+bits_small w = All-get_or (λ b. b < 2 ^ 8) (0 ∷ 8 ∷ 2 ∷ 4 ∷ 8 ∷ 2 ∷ 8 ∷ 16 ∷ []) (format w) 0 (omega arith) (search rules)
 
 -- the lengths of a word's data
 module _ (w : ℕ) where
   pub data_length_lt : data_length w < 2 ^ 32
   unfolding data_length
-  data_length_lt = omega (arith, bits_lt (width_le w) (height_le w) (bits_small (format w)))
+  data_length_lt = omega (arith, bits_lt (width_le w) (height_le w) (bits_small w))
 
   pub second_length_lt : second_length w < 2 ^ 32
   unfolding second_length

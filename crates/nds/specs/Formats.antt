@@ -9,7 +9,7 @@ use Rattle.nds.specs.declared.texture_formats.FormatDesc.{FormatDesc}
 use Rattle.nds.specs.declared.texture_formats.TextureFormat.{TextureFormat}
 use Rattle.nds.specs.declared.texture_formats.TextureFormat.TheVariants.{NoTexture, A3I5, Palette4, Palette16, Palette256, Compressed, A5I3, Direct}
 
--- The format's number in a texture word.
+-- The format's number in a texture word: GBATEK's "DS 3D Texture Formats" lists the formats by it.
 abbrev pub number_of : TextureFormat → ℕ
 number_of NoTexture = 0
 number_of A3I5 = 1

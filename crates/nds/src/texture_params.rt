@@ -1,10 +1,10 @@
-// The texture word: a texture's size, format and addressing in 32 bits.
+// The texture word: a texture's size, format and addressing in 32 bits, and what they say of its data and alphas.
 ghost use Rattle.std.specs.Prelude.{◌≡◌, ◌<◌};
 ghost use Rattle.nds.specs.Formats as Formats;
 ghost use Rattle.nds.specs.Params as Params;
 ghost use Rattle.nds.specs.Wrap.{wrap_of};
 
-use crate::texture_formats::TextureFormat;
+use crate::texture_formats::{Alpha, AlphaDesc, TextureFormat};
 use crate::wrap::{Wrap, wrap_axis};
 use util::bits::bits;
 
@@ -105,5 +105,43 @@ impl TextureParams {
         ensures { result ≡ wrap_of (Params.repeat_t self.0) (Params.mirror_t self.0) }
     {
         wrap_axis(self.repeat_t(), self.mirror_t())
+    }
+
+    // The length of the texture's data, of a block-compressed texture's first data, in bytes.
+    #[tactic(auto, using(crate::proofs::Sizes::area_fits, crate::proofs::Sizes::bits_fit), unfolding(crate::specs::Formats::data_length, crate::specs::Formats::desc))]
+    pub fn byte_len(self) -> usize
+        ensures { result ≡ Formats.data_length self.0 }
+    {
+        let data_bits = self.width() * self.height() * u32::from(self.format().desc().bpp);
+        data_bits as usize / 8
+    }
+
+    // The length of a block-compressed texture's second data, in bytes. Other textures have none.
+    #[tactic(auto, unfolding(crate::specs::Formats::second_length))]
+    pub fn byte_len2(self) -> usize
+        ensures { result ≡ Formats.second_length self.0 }
+    {
+        if self.format() == TextureFormat::Compressed {
+            self.byte_len() / 2
+        } else {
+            0
+        }
+    }
+
+    // Which alphas the texture's texels can have.
+    #[tactic(auto, unfolding(crate::specs::Formats::alpha, crate::specs::Formats::desc))]
+    pub fn alpha_type(self) -> Alpha
+        ensures { result ≡ Formats.alpha self.0 }
+    {
+        match self.format().desc().alpha_desc {
+            AlphaDesc::Always(alpha) => alpha,
+            AlphaDesc::TransparentDependingOnParams => {
+                if self.is_color0_transparent() {
+                    Alpha::Transparent
+                } else {
+                    Alpha::Opaque
+                }
+            }
+        }
     }
 }
