@@ -9,6 +9,7 @@ ghost use Rattle.layout.specs.Positions as Positions;
 
 use errors::Kind;
 use info_block::name_list::Entry;
+use nds::texture_formats::TextureFormat;
 use nds::texture_params::TextureParams;
 
 #[derive(Clone, Copy)]
@@ -44,9 +45,8 @@ pub fn pal_block_len(header: Header) -> usize
 pub fn data1_pos(header: Header, params: TextureParams) -> usize
     ensures { (result ≡ Positions.data_at header params.0) × (result < 2 ^ 33) }
 {
-    let format = params.format();
     let offset = params.offset() as usize;
-    if format.0 == 5 {
+    if params.format() == TextureFormat::Compressed {
         header.compressed1_block_off as usize + offset
     } else {
         header.tex_block_off as usize + offset

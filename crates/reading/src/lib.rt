@@ -18,6 +18,7 @@ pub mod tex;
 use errors::{Kind, Refusal};
 use info_block::name_list::NameList;
 use layout::{Header, Layout, data1_pos, data2_pos, pal_block_len, params_at};
+use nds::texture_formats::TextureFormat;
 use nds::texture_params::TextureParams;
 use scripts::take;
 use util::unsigned::Unsigned;
@@ -74,8 +75,7 @@ fn take_pal_block(block: &[u8], header: Header) -> Result<(), Refusal>
 fn take_data2(block: &[u8], header: Header, params: TextureParams) -> Result<(), Refusal>
     ensures { result_outcome result ≡ passing (Tex.read_second header params.0) block.now }
 {
-    let format = params.format();
-    if format.0 == 5 {
+    if params.format() == TextureFormat::Compressed {
         take(block, data2_pos(header, params), params.byte_len2())
     } else {
         Ok(())
