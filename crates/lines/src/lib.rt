@@ -56,7 +56,7 @@ pub fn put_texture(out: &mut [u8], at: usize, n: usize, texture: TextureRecord) 
     let params = texture.params;
     let at = put_number(out, at, n, b" ");
     let at = put_name(out, at, texture.name, b" ");
-    let at = put_number(out, at, params.format().0 as usize, b" ");
+    let at = put_number(out, at, params.format().number() as usize, b" ");
     let at = put_number(out, at, params.width() as usize, b" ");
     let at = put_number(out, at, params.height() as usize, b" ");
     let at = put_field(out, at, wrap_word(texture.wrap_s), b" ");

@@ -12,7 +12,7 @@ use Rattle.errors.specs.declared.Refusal.{Refusal}
 use Rattle.errors.proofs.Refusals.{refusal_not}
 use Rattle.scripts.specs.Script.{Answer, short, fault, whole, run, outcome_of}
 use Rattle.reading.specs.Tex.{Contents, read_tex}
-use Rattle.reading.specs.Layouts.{layout_of, layout_answer, LaidOut}
+use Rattle.reading.specs.Layouts.{layout_of, layout_answer}
 use Rattle.layout.specs.declared.Layout.{Layout}
 use Rattle.scripts.proofs.Runs.{ended, whole_outcome}
 use Rattle.refused.specs.Refused.{refused_line}
@@ -35,17 +35,13 @@ module _ (b : List ℕ) where
       go true q e = absurd (cc)
       go false q e = record { read = q; is = e }
 
-  -- the layout that is found is the block's
-  pub read_laid : (l : Layout) → result l ≡ read_outcome b → LaidOut b l
-  read_laid l e = record { is = (found l e).is }
-
-  -- and the text is the two lists
-  pub read_lists : (l : Layout) → result l ≡ read_outcome b
-      → listing_text b ≡ list_of Texture (run read_tex b) l.textures ++ list_of Palette (run read_tex b) l.palettes
+  -- the text of a block that was read is the two lists
+  pub read_lists : (l : Layout) (block : List ℕ) → block ≡ b → result l ≡ read_outcome b
+      → listing_text b ≡ list_of Texture (run read_tex block) l.textures ++ list_of Palette (run read_tex block) l.palettes
   unfolding listing_text listing_outcome layout_answer
-  read_lists l e =
+  read_lists l block q e =
       let o = ended (run read_tex b) (layout_of b) (found l e).is in
-      rw ((found l e).read, o.gives) (ap printed (sym (whole_outcome (λ c. result (lists_of c)) o.is)) ∙ sym (lists_whole b o.is))
+      rw ((found l e).read, o.gives, q) (ap printed (sym (whole_outcome (λ c. result (lists_of c)) o.is)) ∙ sym (lists_whole b o.is))
 
   -- a reading that is refused is the single line
   pub read_refused : (r : Refusal) → refusal_outcome r ≡ read_outcome b → listing_text b ≡ refused_line (refusal_number r) (refusal_returned r)
@@ -59,4 +55,4 @@ module _ (b : List ℕ) where
       go false (fault found) e = cc
       go false (whole c) e = absurd (refusal_not r e)
 
-pub ruleset listings = (read_laid, read_lists, read_refused)
+pub ruleset listings = (read_lists, read_refused)

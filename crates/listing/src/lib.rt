@@ -2,14 +2,14 @@
 
 #![tactic(auto)]
 
-ghost use Rattle.std.specs.Prelude.{◌≡◌, [], ◌∷◌, ◌<◌};
+ghost use Rattle.std.specs.Prelude.{◌≡◌, [], ◌∷◌, ◌<◌, IfOk};
 ghost use Rattle.io.specs.Counts.{IsPrefixLen};
 ghost use Rattle.util.specs.Outcome.{result as answered};
 ghost use Rattle.output.specs.Output.{Writes};
-ghost use Rattle.errors.specs.Refusal.{result_outcome};
+ghost use Rattle.errors.specs.Refusal.{result_outcome, outcome_as};
 ghost use Rattle.scripts.specs.Script.{run};
 ghost use Rattle.reading.specs.Tex.{read_tex};
-ghost use Rattle.reading.specs.Layouts.{LaidOut};
+ghost use Rattle.reading.specs.Blocks.{layout_in};
 ghost use Rattle.layout.specs.Positions.{count_of};
 ghost use Rattle.text.specs.Text.{decimal, line};
 ghost use Rattle.text.specs.Put.{Room, Put};
@@ -17,10 +17,10 @@ ghost use Rattle.listing.specs.Listing as Listing;
 ghost use Rattle.listing.specs.Lists as Lists;
 
 use errors::{Kind, Refusal};
-use layout::{Layout, count_of};
+use layout::count_of;
 use lines::{put_palette, put_texture};
 use nitro::tex::{palette_by, texture_by};
-use reading::lay_out;
+use reading::tex::Tex;
 use refused::put_refused;
 use text::{put, put_field, put_number};
 
@@ -30,14 +30,14 @@ pub const MAX_INPUT: usize = 65536;
 // No listing is longer than this, in bytes: 255 textures and 255 palettes, with names of 16 bytes and the longest numbers and words.
 pub const MAX_LISTING: usize = 22211;
 
-// The line of texture or palette n, by the block's layout.
-fn put_entry(out: &mut [u8], at: usize, block: &[u8], kind: Kind, layout: Layout, n: usize) -> usize
-    requires { LaidOut block.now layout × ((n < count_of kind layout) × Room (Lists.entry_line kind (run read_tex block.now) n) out.old at) }
-    ensures { Put (Lists.entry_line kind (run read_tex block.now) n) out.old at out.new result }
+// The line of texture or palette n.
+fn put_entry(out: &mut [u8], at: usize, tex: Tex, kind: Kind, n: usize) -> usize
+    requires { (n < count_of kind tex.layout) × Room (Lists.entry_line kind (run read_tex tex.block.now) n) out.old at }
+    ensures { Put (Lists.entry_line kind (run read_tex tex.entry.block.now) n) out.old at out.new result }
 {
     match kind {
-        Kind::Texture => put_texture(out, at, n, texture_by(block, layout, n)),
-        Kind::Palette => put_palette(out, at, n, palette_by(block, layout, n)),
+        Kind::Texture => put_texture(out, at, n, texture_by(tex, n)),
+        Kind::Palette => put_palette(out, at, n, palette_by(tex, n)),
     }
 }
 
@@ -64,27 +64,28 @@ fn put_heading(out: &mut [u8], at: usize, kind: Kind, count: usize) -> usize
 
 // The list of the block's textures or palettes. All lines are of one reading.
 #[tactic(auto, using(crate::proofs::Lists::each_line), unfolding(crate::specs::Lists::list_of))]
-fn put_list(out: &mut [u8], at: usize, block: &[u8], kind: Kind, layout: Layout) -> usize
-    requires { LaidOut block.now layout × Room (Lists.list_of kind (run read_tex block.now) (count_of kind layout)) out.old at }
-    ensures { Put (Lists.list_of kind (run read_tex block.now) (count_of kind layout)) out.old at out.new result }
+fn put_list(out: &mut [u8], at: usize, tex: Tex, kind: Kind) -> usize
+    requires { Room (Lists.list_of kind (run read_tex tex.block.now) (count_of kind tex.layout)) out.old at }
+    ensures { Put (Lists.list_of kind (run read_tex tex.entry.block.now) (count_of kind tex.entry.layout)) out.old at out.new result }
 {
-    let count = count_of(kind, layout);
+    let count = count_of(kind, tex.layout);
     let mut at = put_heading(out, at, kind, count);
     for n in 0..count {
-        at = put_entry(out, at, block, kind, layout, n);
+        at = put_entry(out, at, tex, kind, n);
     }
     at
 }
 
-// The layout of an input that is not too long to be read.
+// Reads an input that is not too long.
 #[tactic(auto, unfolding(crate::specs::Lists::read_outcome))]
-fn read(input: &[u8]) -> Result<Layout, Refusal>
-    ensures { result_outcome result ≡ Lists.read_outcome input.now }
+fn read(input: &[u8]) -> Result<Tex<'_>, Refusal>
+    ensures value { outcome_as layout_in result ≡ Lists.read_outcome input.now }
+    ensures of_block { IfOk result (λ tex. tex.block ≡ input.entry) }
 {
     if MAX_INPUT < input.len() {
         return Err(Refusal::LongInput);
     }
-    lay_out(input)
+    Tex::read(input)
 }
 
 // The whole listing, at the start of the output.
@@ -94,9 +95,9 @@ fn put_listing(out: &mut [u8], input: &[u8]) -> usize
     ensures { Put (Listing.listing_text input.now) out.old 0 out.new result }
 {
     match read(input) {
-        Ok(layout) => {
-            let at = put_list(out, 0, input, Kind::Texture, layout);
-            put_list(out, at, input, Kind::Palette, layout)
+        Ok(tex) => {
+            let at = put_list(out, 0, tex, Kind::Texture);
+            put_list(out, at, tex, Kind::Palette)
         }
         Err(refusal) => put_refused(out, 0, refusal.number(), refusal.returned()),
     }

@@ -10,4 +10,4 @@ use Rattle.listing.proofs.put_list.Goals as goal
 pub put_entry-at-requires : goal.put_entry-at-requires
 unfolding list_of
 put_entry-at-requires c =
-    grind (arith, each_line, line_fits (entry_line c.args.kind (run read_tex c.args.block.now)) c.loop-n.n (count_of c.args.kind c.args.layout))
+    grind (arith, each_line, line_fits (entry_line c.args.kind (run read_tex c.args.tex.block.now)) c.loop-n.n (count_of c.args.kind c.args.tex.layout))

@@ -7,4 +7,4 @@ use Rattle.listing.specs.Lists.{entry_line}
 use Rattle.listing.proofs.put_list.Given as goal
 
 abbrev pub invariant-loop-n : goal.invariant-loop-n
-invariant-loop-n l = Put (pieces (entry_line l.kind (run read_tex l.block)) l.n) l.initial.out l.initial.at l.out l.at
+invariant-loop-n l = Put (pieces (entry_line l.kind (run read_tex l.tex.block.now)) l.n) l.initial.out l.initial.at l.out l.at
