@@ -232,14 +232,6 @@ module _ (k : Kind) (n : ℕ) (b : List ℕ) {l : Layout} (e : result l ≡ layo
 
 -- the entries of a layout of the block
 module _ (b : List ℕ) {l : Layout} (laid : LaidOut b l) where
-  pub laid_textures : l.header.texture_off + list_length kinds.Texture l.textures ≤ length b
-  unfolding layout_answer
-  laid_textures = let o = ended _ _ laid.is in rw o.gives (textures_listed (header_of (take 60 b)) b (finished b o.is).textures).within
-
-  pub laid_palettes : l.header.palette_off + list_length kinds.Palette l.palettes ≤ length b
-  unfolding layout_answer
-  laid_palettes = let o = ended _ _ laid.is in rw o.gives (palettes_listed (header_of (take 60 b)) b (finished b o.is).palettes).within
-
   pub laid_texture : (n : ℕ) → n < l.textures
       → result
       (texture_record (entry_name kinds.Texture (list_at kinds.Texture l.header.texture_off l.textures b) n)
@@ -271,11 +263,8 @@ entry_blank f g n (whole c) e = sym (ap part_of (entry_absent kinds.Texture f g 
 -- texture n, where a layout with it was found
 module _ (n : ℕ) (b : List ℕ) where
   module _ {l : Layout} (e : result l ≡ layout_with kinds.Texture n b (run read_tex b)) where
-    pub texture_laid : LaidOut b l × (n < l.textures)
-    texture_laid = entry_laid kinds.Texture n b e
-
-    pub textures_there : (l.header.texture_off + list_length kinds.Texture l.textures ≤ length b) × (n < l.textures)
-    textures_there = let t = texture_found n b e in (t.within, t.below)
+    pub texture_below : n < l.textures
+    texture_below = (entry_laid kinds.Texture n b e).1
 
     pub word_found : {w : ℕ} → w ≡ entry_number kinds.Texture 4 (list_at kinds.Texture l.header.texture_off l.textures b) n
         → result (l.header, record { 0 = w }) ≡ word_with n b (run read_tex b)
@@ -317,8 +306,8 @@ module _ (n : ℕ) (b : List ℕ) where
     unfolding word_with data2_of
     no_data2 = entry_blank _ (λ t. t.parts.data2) n (run read_tex b) e
 
-  pub palette_laid : {l : Layout} → result l ≡ layout_with kinds.Palette n b (run read_tex b) → LaidOut b l × (n < l.palettes)
-  palette_laid e = entry_laid kinds.Palette n b e
+  pub palette_below : {l : Layout} → result l ≡ layout_with kinds.Palette n b (run read_tex b) → n < l.palettes
+  palette_below e = (entry_laid kinds.Palette n b e).1
 
   pub palette_refused : (r : Refusal) → refusal_outcome r ≡ layout_with kinds.Palette n b (run read_tex b) → refusal_outcome r ≡ palette_of n (run read_tex b)
   unfolding palette_of
@@ -377,12 +366,10 @@ pub ruleset answers = (
   no_pal_block,
   entry_found,
   entry_missed,
-  laid_textures,
   laid_texture,
-  laid_palettes,
   laid_palette,
-  texture_laid,
-  textures_there,
+  texture_below,
+  palette_below,
   word_found,
   no_word,
   data1_there,
@@ -390,6 +377,5 @@ pub ruleset answers = (
   texture_refused,
   no_data1,
   no_data2,
-  palette_laid,
   palette_refused,
 )

@@ -1,6 +1,6 @@
 -- The laws of what a picture is made from, and of where that is. Assumes nothing.
 use Rattle.std.specs.Prelude.{Option, None, Some}
-use Prim.Native.Nat.{ℕ, ◌+◌, ◌≤◌, ◌<◌}
+use Prim.Native.Nat.{ℕ, ◌≤◌, ◌<◌}
 use mathlib.Core.Path.{◌≡◌, refl, sym, ap, ◌∙◌}
 use mathlib.Core.Bool.{Bool, true, false}
 use mathlib.Core.List.{List}
@@ -14,7 +14,6 @@ use Rattle.errors.specs.declared.Refusal.{Refusal}
 use Rattle.errors.proofs.Refusals.{refusal_not, refusal_any}
 use Rattle.errors.proofs.Refusals as refusals
 use Rattle.scripts.specs.Script.{Answer, short, fault, whole, run, outcome_of}
-use Rattle.info_block.specs.InfoBlock.{list_length}
 use Rattle.reading.specs.Tex as Tex
 use Rattle.reading.specs.Tex.{Contents, header_of, read_tex}
 use Rattle.nitro.specs.Calls.{entry, texture_entry, part_of, data1_of, data2_of, pal_block_of}
@@ -125,14 +124,6 @@ module _ (n : ℕ) (choice : Option ℕ) (b : List ℕ) where
   places_refused r e = passed_on r (sources_of n choice (run read_tex b)) _ (refused _ _ (follows_self _) _ _ r e)
 
   module _ {l : Layout} (laid : LaidOut b l) where
-    pub palettes_within : l.header.palette_off + list_length kinds.Palette l.palettes ≤ length b
-    unfolding layout_answer
-    palettes_within = let o = ended _ _ laid.is in rw o.gives (palettes_listed (header_of (take 60 b)) b (finished b o.is).palettes).within
-
-    pub textures_within : l.header.texture_off + list_length kinds.Texture l.textures ≤ length b
-    unfolding layout_answer
-    textures_within = let o = ended _ _ laid.is in rw o.gives (textures_listed (header_of (take 60 b)) b (finished b o.is).textures).within
-
     pub no_texture : l.textures ≤ n → refusal (absent_number kinds.Texture) 0 ≡ places_of n choice b (run read_tex b)
     unfolding places_of sources_of layout_answer outcome_of ◌>>=◌
     no_texture h =
@@ -155,8 +146,6 @@ pub ruleset finds = (
   pal_place_found,
   pal_place_refused,
   places_refused,
-  palettes_within,
-  textures_within,
   no_texture,
   places_found,
   no_palette,
