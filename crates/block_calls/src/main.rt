@@ -3,7 +3,7 @@
 
 #![tactic(auto)]
 
-use block_report::{answered, palettes, part, textures};
+use block_report::{palettes, part, refused, textures};
 use name_report::texts;
 use nitro::tex;
 use report::{STDIN_FILENO, number, numbers, text};
@@ -14,7 +14,7 @@ fn show(block: &[u8]) {
     text(b"block");
     number(block.len() as u64);
     text(b"\nreading");
-    answered(tex::read_tex(block), |counts| {
+    tex::read_tex(block).map_or_else(refused, |counts| {
         numbers(&[counts.textures, counts.palettes])
     });
     text(b"\npal_block");

@@ -1,39 +1,19 @@
-// How the program `block_calls` prints answers and parts, and what the calls for one texture and one palette answer.
+// How the program `block_calls` prints refusals and parts, and what the calls for one texture and one palette answer.
 
 #![tactic(auto)]
 
 use errors::Refusal;
 use nitro::tex;
-use nitro::tex::TextureRecord;
+use nitro::tex::{PaletteRecord, TextureRecord};
 use report::{STDOUT_FILENO, alpha, number, text, wrap};
 
 // Prints a refusal's number, and for a short block what is returned beside it.
-fn refused(refusal: Refusal) {
+pub fn refused(refusal: Refusal) {
     text(b" refused");
     number(refusal.number() as u64);
     if let Refusal::Short(needed) = refusal {
         number(needed as u64);
     }
-}
-
-// Prints an answer: what it holds, by `value`, or its refusal.
-pub fn answered<T, F: FnOnce(T)>(answer: Result<T, Refusal>, value: F)
-    requires { F.IsAlwaysCallable value }
-{
-    match answer {
-        Ok(holds) => value(holds),
-        Err(refusal) => refused(refusal),
-    }
-}
-
-// Prints an answer that is a number or a refusal.
-pub fn counted(answer: Result<usize, Refusal>) {
-    answered(answer, |n| number(n as u64));
-}
-
-// Prints an answer that holds nothing beside a refusal.
-fn status<T: Copy>(answer: Result<T, Refusal>) {
-    answered(answer, |_| text(b" done"));
 }
 
 // Prints a part's length, and its bytes in hex.
@@ -45,6 +25,14 @@ pub fn part(bytes: &[u8]) {
     }
 }
 
+// Prints what a record call answers, and by `fields` its record, or what stands for none.
+fn record<T: Copy, F: FnOnce(T)>(answer: Result<T, Refusal>, none: T, fields: F)
+    requires { F.IsAlwaysCallable fields }
+{
+    answer.map_or_else(refused, |_| text(b" done"));
+    fields(answer.unwrap_or(none));
+}
+
 // Prints a texture's record.
 fn texture(record: TextureRecord) {
     number(u64::from(record.params.0));
@@ -54,13 +42,17 @@ fn texture(record: TextureRecord) {
     part(&record.name.0);
 }
 
+// Prints a palette's record.
+fn palette(record: PaletteRecord) {
+    number(u64::from(record.off));
+    part(&record.name.0);
+}
+
 // Prints the answers for the texture with this number: its record, and its first and second data.
 pub fn textures(block: &[u8], n: usize) {
     text(b"texture");
     number(n as u64);
-    let answer = tex::texture(block, n);
-    status(answer);
-    texture(answer.unwrap_or(tex::no_texture()));
+    record(tex::texture(block, n), tex::no_texture(), texture);
     text(b"\ndata1");
     part(tex::texture_data1(block, n));
     text(b"\ndata2");
@@ -72,10 +64,6 @@ pub fn textures(block: &[u8], n: usize) {
 pub fn palettes(block: &[u8], n: usize) {
     text(b"palette");
     number(n as u64);
-    let answer = tex::palette(block, n);
-    status(answer);
-    let record = answer.unwrap_or(tex::no_palette());
-    number(u64::from(record.off));
-    part(&record.name.0);
+    record(tex::palette(block, n), tex::no_palette(), palette);
     text(b"\n");
 }

@@ -2,10 +2,10 @@
 
 #![tactic(auto)]
 
-use block_report::counted;
+use block_report::refused;
 use errors::Refusal;
 use name::Name;
-use report::text;
+use report::{number, text};
 
 // Prints what a name call answers to an output, and all of the output.
 fn written<const N: usize, F: FnOnce(&mut [u8]) -> Result<usize, Refusal>>(
@@ -16,7 +16,7 @@ fn written<const N: usize, F: FnOnce(&mut [u8]) -> Result<usize, Refusal>>(
     requires { F.IsAlwaysCallable call }
 {
     text(title);
-    counted(call(&mut out));
+    call(&mut out).map_or_else(refused, |n| number(n as u64));
     text(b" ");
     text(&out);
     text(b"\n");

@@ -2,6 +2,8 @@
 
 #![tactic(auto)]
 
+ghost use Rattle.std.specs.Prelude.{◌≡◌, ◌≤◌, length, IfOk, OnOk};
+
 // The file descriptor of standard input.
 const STDIN_FILENO: i32 = 0;
 
@@ -14,10 +16,11 @@ pub struct Broken;
 
 // Reads the list's next len bytes to the start of the buffer, and returns them. The list is broken where there are fewer, or the buffer is
 // shorter.
-pub fn next_bytes<'a>(buffer: &'a mut [u8], len: usize) -> Result<&'a [u8], Broken> {
-    let Some(bytes) = buffer.get_mut(..len) else {
-        return Err(Broken);
-    };
+pub fn next_bytes<'a>(buffer: &'a mut [u8], len: usize) -> Result<&'a [u8], Broken>
+    ensures whole { IfOk result (λ bytes. length bytes.now ≡ len) }
+    ensures limit { OnOk result (len ≤ length buffer.old) }
+{
+    let bytes = buffer.get_mut(..len).ok_or(Broken)?;
     if io::read_full(STDIN_FILENO, bytes) != len {
         return Err(Broken);
     }
@@ -32,7 +35,9 @@ pub fn next_array<const N: usize>() -> Result<[u8; N], Broken> {
 }
 
 // Reads a length, and as many bytes to the start of the buffer.
-pub fn next_part<'a>(buffer: &'a mut [u8]) -> Result<&'a [u8], Broken> {
+pub fn next_part<'a>(buffer: &'a mut [u8]) -> Result<&'a [u8], Broken>
+    ensures { IfOk result (λ part. length part.now ≤ length buffer.old) }
+{
     let len = u32::from_le_bytes(next_array()?);
     next_bytes(buffer, len as usize)
 }

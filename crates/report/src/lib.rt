@@ -2,6 +2,8 @@
 
 #![tactic(auto)]
 
+ghost use Rattle.std.specs.Prelude.{IfOk};
+
 use errors::Refusal;
 use nds::texture_formats::Alpha;
 use nds::wrap::Wrap;
@@ -37,22 +39,19 @@ pub fn numbers(all: &[usize]) {
 
 // Prints that a call was declined: the refusal's number and what is returned with it.
 pub fn refused(refusal: Refusal) {
-    text(b" | no ");
-    decimal(refusal.number() as u64);
-    number(refusal.returned() as u64);
+    text(b" | no");
+    numbers(&[refusal.number(), refusal.returned()]);
 }
 
 // Prints an answer: what it holds, by `value`, or that the call was declined.
 pub fn answered<T, F: FnOnce(T)>(answer: Result<T, Refusal>, value: F)
     requires { F.IsAlwaysCallable value }
+    ensures { IfOk answer (λ holds. F.post value holds tt) }
 {
-    match answer {
-        Ok(holds) => {
-            text(b" | ok");
-            value(holds);
-        }
-        Err(refusal) => refused(refusal),
-    }
+    answer.map_or_else(refused, |holds| {
+        text(b" | ok");
+        value(holds);
+    });
 }
 
 // Prints an answer that is a number or a refusal.

@@ -2,14 +2,14 @@
 
 #![tactic(auto)]
 
-use block_report::counted;
+use block_report::refused;
 use errors::Kind;
-use report::{numbers, text};
+use report::{number, numbers, text};
 
 // Prints what the call for all rows of a kind answers to an output, and all of the output.
 fn rows<const N: usize>(block: &[u8], kind: Kind, mut out: [usize; N]) {
     text(b"rows");
-    counted(rows::rows(block, kind, &mut out));
+    rows::rows(block, kind, &mut out).map_or_else(refused, |n| number(n as u64));
     text(b" of");
     numbers(&out);
     text(b"\n");

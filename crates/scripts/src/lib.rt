@@ -15,8 +15,6 @@ pub fn take(block: &[u8], pos: usize, n: usize) -> Result<(), Refusal>
     requires { pos + n < 2 ^ 64 }
     ensures { result_outcome result ≡ passing (bytes_at pos n) block.now }
 {
-    match take_at(block, pos, n) {
-        Ok(_) => Ok(()),
-        Err(needed) => Err(Refusal::Short(needed.low)),
-    }
+    take_at(block, pos, n).map_err(|needed| Refusal::Short(needed.low))?;
+    Ok(())
 }

@@ -4,8 +4,6 @@
 
 #![tactic(auto)]
 
-ghost use Rattle.std.specs.Prelude.{◌≤◌, length};
-
 use arguments::{parse_choice, parse_number};
 use cursor::part_at;
 use errors::Refusal;
@@ -53,18 +51,13 @@ fn parse_arguments(rt: &impl Env) -> Option<(usize, Option<usize>)> {
     Some((n, choice))
 }
 
-// Reads until the input is full, the file ends or a read fails. One byte more than may be read is enough to know that the file is too long.
-fn read_file(file: &mut impl Read, input: &mut [u8; MAX_BLOCK + 1]) -> usize
-    ensures { result ≤ length input.new }
-{
-    let mut done = 0;
-    while done < input.len() {
-        match file.read(&mut input[done..]) {
-            Ok(0) | Err(_) => break,
-            Ok(n) => done += n,
-        }
-    }
-    done
+// Reads until the input is full, the file ends or a read fails, and returns what was read. One byte more than may be read is enough to know
+// that the file is too long. The room that a copy which fails leaves is not promised to be less than the input, so the difference saturates.
+fn read_file<'a>(file: &mut impl Read, input: &'a mut [u8; MAX_BLOCK + 1]) -> &'a [u8] {
+    let mut room = &mut input[..];
+    let _ = io::copy(file, &mut room);
+    let left = room.len();
+    part_at(input, 0, input.len().saturating_sub(left))
 }
 
 // An image stands at the start of the output.
@@ -119,8 +112,7 @@ fn show(
 ) -> io::Result<()> {
     let mut input = [0; MAX_BLOCK + 1];
     let mut out = [0; MAX_PAM];
-    let len = read_file(file, &mut input);
-    match show::show(&input[..len], n, choice, &mut out) {
+    match show::show(read_file(file, &mut input), n, choice, &mut out) {
         Ok(len) => write_image(rt, &out, len),
         Err(Unshown::Refused(refusal)) => tell_refused(err, refusal),
         Err(Unshown::TooLong) => tell_too_long(err),

@@ -9,11 +9,6 @@ use nitro::tex::{Counts, TextureRecord};
 use report::{answered, numbers};
 use told::{alpha_number, wrap_number};
 
-// Prints an answer that holds nothing beside a refusal.
-fn status<T: Copy>(answer: Result<T, Refusal>) {
-    answered(answer, |_| {});
-}
-
 // Prints the answer of a reading.
 pub fn reading(answer: Result<Counts, Refusal>) {
     answered(answer, |counts| {
@@ -41,14 +36,14 @@ fn add_record(sum: u64, record: TextureRecord) -> u64 {
 // Shows the record call's answer, and adds the record that stands beside it.
 pub fn texture(sum: u64, block: &[u8], n: usize) -> u64 {
     let answer = tex::texture(block, n);
-    status(answer);
+    answered(answer, |_| {});
     add_record(sum, answer.unwrap_or(tex::no_texture()))
 }
 
 // The same for a palette.
 pub fn palette(sum: u64, block: &[u8], n: usize) -> u64 {
     let answer = tex::palette(block, n);
-    status(answer);
+    answered(answer, |_| {});
     let record = answer.unwrap_or(tex::no_palette());
     add(add_all(sum, &record.name.0), u64::from(record.off))
 }
