@@ -37,13 +37,8 @@ module _ {a b : ℕ} (ha : a ≤ 1024) (hb : b ≤ 1024) where
   pub bits_lt : {bpp : ℕ} → bpp < 2 ^ 8 → a * b * bpp < 2 ^ 32
   bits_lt h = lt_of_le_of_lt (mul-le-mul {n₂ = 1024 * 1024} {m₂ = 2 ^ 8} (mul-le-mul ha hb) (le_of_lt h)) (lit< tt)
 
--- the texels of a word, and their bits, fit 32 bits
-module _ (w : ℕ) where
-  pub area_fits : width w * height w < 2 ^ 32
-  area_fits = area_lt (width_le w) (height_le w)
-
-  pub bits_fit : {bpp : ℕ} → bpp < 2 ^ 8 → width w * height w * bpp < 2 ^ 32
-  bits_fit h = bits_lt (width_le w) (height_le w) h
+-- for functions that multiply a word's sizes
+pub ruleset areas = (width_le, height_le, area_lt, bits_lt)
 
 -- the bits of a texel fit a byte
 bits_small : (w : ℕ) → bits_per_texel (format w) < 2 ^ 8

@@ -108,7 +108,7 @@ impl TextureParams {
     }
 
     // The length of the texture's data, of a block-compressed texture's first data, in bytes.
-    #[tactic(auto, using(crate::proofs::Sizes::area_fits, crate::proofs::Sizes::bits_fit), unfolding(crate::specs::Formats::data_length, crate::specs::Formats::desc))]
+    #[tactic(auto, using(crate::proofs::Sizes::areas), unfolding(crate::specs::Formats::data_length, crate::specs::Formats::desc))]
     pub fn byte_len(self) -> usize
         ensures { result ≡ Formats.data_length self.0 }
     {
