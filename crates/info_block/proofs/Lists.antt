@@ -3,12 +3,11 @@ use Prim.Native.Nat.{ℕ, ◌+◌, ◌*◌, ◌^◌, ◌≤◌, ◌<◌}
 use mathlib.Core.Path.{◌≡◌, sym, ap, ◌∙◌, subst}
 use mathlib.Core.List.{List}
 use native.Mathlib.Omega.{arith}
-use lib.ListN.{length, take, drop}
+use lib.ListN.{length}
 use borrow.Author.Tests.{eq-eqb, ne_eqb}
 use Rattle.util.specs.Number.{number_at}
 use Rattle.util.specs.Outcome.{result}
 use Rattle.util.proofs.Numbers.{number_in_part}
-use Rattle.util.proofs.Parts.{part_of_part}
 use Rattle.errors.specs.Refusal.{bad_dummy, bad_size, refusal_outcome}
 use Rattle.errors.specs.declared.Kind.{Kind}
 use Rattle.errors.specs.declared.Kind.TheVariants.{Texture, Palette}
@@ -16,7 +15,7 @@ use Rattle.errors.specs.declared.Refusal.{Refusal}
 use Rattle.errors.specs.declared.Refusal.TheVariants.{Dummy, DatumSize}
 use Rattle.errors.proofs.Refusals as refusals
 use Rattle.scripts.specs.Script.{fault, whole, run, outcome_of, bytes_at}
-use Rattle.info_block.specs.InfoBlock.{NameList, datum_bytes, size_at, name_at, list_length, list_at, entry_name, whole_list, name_list}
+use Rattle.info_block.specs.InfoBlock.{NameList, datum_bytes, size_at, list_length, list_at, whole_list, name_list}
 use Rattle.scripts.proofs.Runs.{take_within, whole_outcome, fault_outcome, refused}
 use Rattle.scripts.proofs.Runs.{onward, both, bytes_in, bytes_whole, expect_met, expect_failed, expected, ended, Follows, follows_bind}
 

@@ -1,5 +1,4 @@
 -- The code's lists, as those of `InfoBlock`. Assumes nothing.
-use Rattle.std.specs.Prelude.{ℕ}
 use Rattle.info_block.specs.InfoBlock as InfoBlock
 use Rattle.info_block.specs.declared.name_list.NameList.{NameList}
 

@@ -1,5 +1,5 @@
 // A name list that a block has, and its entries.
-ghost use Rattle.std.specs.Prelude.{◌≡◌, ◌+◌, ◌*◌, ◌<◌, ◌≤◌, length, take as first_bytes, drop};
+ghost use Rattle.std.specs.Prelude.{◌≡◌, ◌+◌, ◌*◌, ◌<◌, ◌≤◌, ◌^◌, length, take as first_bytes, drop};
 ghost use Rattle.info_block.specs.InfoBlock.{datum_bytes, list_length};
 
 use errors::Kind;
@@ -17,7 +17,7 @@ pub(crate) fn datum_size(kind: Kind) -> usize
 }
 
 // The name of the 16 bytes at pos.
-fn name_at(bytes: &[u8], pos: usize) -> Name
+fn name_of(bytes: &[u8], pos: usize) -> Name
     requires { pos + 16 ≤ length bytes.now }
     ensures { result.0 ≡ first_bytes 16 (drop pos bytes.now) }
 {
@@ -44,8 +44,7 @@ pub struct Entry<'a> {
 }
 
 impl<'a> NameList<'a> {
-    ghost use Rattle.std.specs.Prelude.{Option, None, Some};
-    ghost use Rattle.info_block.specs.InfoBlock.{list_at, datum_at, name_at as place_of_name};
+    ghost use Rattle.info_block.specs.InfoBlock.{list_at, name_at, datum_at};
     ghost use Rattle.info_block.specs.Lists.{listed};
 
     // The list of count entries at pos.
@@ -63,14 +62,14 @@ impl<'a> NameList<'a> {
     }
 
     // Where name n begins, from the list's start.
-    pub fn name_pos(self, n: usize) -> usize
+    fn name_pos(self, n: usize) -> usize
         requires { n < self.count }
-        ensures { result ≡ place_of_name self.entry.kind self.entry.count n }
+        ensures { (result ≡ name_at self.entry.kind self.entry.count n) × (result < 2 ^ 63) }
     {
         16 + 4 * self.count + datum_size(self.kind) * self.count + 16 * n
     }
 
-    // Where the datum of entry n begins, from the list's start.
+    // Where datum n begins, from the list's start.
     #[tactic(auto, using(crate::proofs::Lists::datum_within))]
     fn datum_pos(self, n: usize) -> usize
         requires { n < self.count }
@@ -89,14 +88,21 @@ impl<'a> NameList<'a> {
 }
 
 impl<'a> Entry<'a> {
-    ghost use Rattle.info_block.specs.InfoBlock.{entry_name, entry_number};
+    ghost use Rattle.info_block.specs.InfoBlock.{name_at, entry_name, entry_number};
     ghost use Rattle.info_block.specs.Lists.{listed};
+
+    // Where its name begins, from the list's start.
+    pub fn name_pos(self) -> usize
+        ensures { (result ≡ name_at self.entry.list.kind self.entry.list.count self.entry.n) × (result < 2 ^ 63) }
+    {
+        self.list.name_pos(self.n)
+    }
 
     // Its name.
     pub fn name(self) -> Name
         ensures { result.0 ≡ entry_name self.entry.list.kind (listed self.entry.list) self.entry.n }
     {
-        name_at(self.list.bytes, self.list.name_pos(self.n))
+        name_of(self.list.bytes, self.name_pos())
     }
 
     // The number that the first bytes of its datum are, as many as the type has.

@@ -79,7 +79,7 @@ pub fn off_at(palette: Entry) -> u32
 
 // Where the list of the kind begins.
 pub fn list_pos(kind: Kind, header: Header) -> usize
-    ensures { result ≡ Positions.list_pos kind header }
+    ensures { (result ≡ Positions.list_pos kind header) × (result < 2 ^ 32) }
 {
     match kind {
         Kind::Texture => header.texture_off as usize,

@@ -4,12 +4,11 @@ use mathlib.Core.List.{List}
 use lib.ListN.{length, take}
 use Rattle.errors.specs.declared.Kind.{Kind}
 use Rattle.errors.specs.declared.Kind.TheVariants.{Texture, Palette}
-use Rattle.scripts.specs.Script.{run}
 use Rattle.scripts.proofs.Runs.{ended}
 use Rattle.info_block.specs.InfoBlock.{list_length}
 use Rattle.layout.specs.Positions.{list_pos, count_of}
 use Rattle.layout.specs.declared.Layout.{Layout}
-use Rattle.reading.specs.Tex.{header_of, read_tex}
+use Rattle.reading.specs.Tex.{header_of}
 use Rattle.reading.specs.Layouts.{layout_answer, LaidOut}
 use Rattle.reading.proofs.Readings.{finished, textures_listed, palettes_listed}
 

@@ -24,7 +24,7 @@ use Rattle.errors.specs.declared.Refusal.{Refusal}
 use Rattle.errors.specs.declared.Refusal.TheVariants.{Stamp}
 use Rattle.errors.proofs.Refusals as refusals
 use Rattle.errors.specs.declared.Kind.TheVariants as kinds
-use Rattle.scripts.specs.Script.{Script, done, fault, whole, run, outcome_of, passing, bytes_at, each, each_from}
+use Rattle.scripts.specs.Script.{done, fault, whole, run, outcome_of, passing, bytes_at, each, each_from}
 use Rattle.info_block.specs.InfoBlock.{NameList, list_at, list_length, name_list, entry_name, entry_number}
 use Rattle.reading.specs.Tex as Tex
 use Rattle.reading.specs.Tex.{Contents, has_stamp, header_of, palette_at, read_header, read_pal_block, read_second, read_data}

@@ -1,7 +1,7 @@
 -- The laws of rows: by the layout that the code has, and where the parts are that a row tells of. Assumes nothing.
 use Rattle.std.specs.Prelude.{Result, IsErrAnd}
 use Prim.Native.Nat.{ℕ, ◌+◌, ◌-◌, ◌*◌, ◌≤◌, ◌<◌}
-use mathlib.Core.Path.{◌≡◌, refl, sym, ap, subst, ◌∙◌}
+use mathlib.Core.Path.{◌≡◌, refl, sym, ap, ◌∙◌}
 use mathlib.Core.Bool.{Bool, true, false}
 use mathlib.Core.List.{List, append_assoc}
 use native.Mathlib.Nat.{zero-add, suc-mul, mul-le-mul_right}
@@ -24,13 +24,14 @@ use Rattle.errors.specs.declared.Refusal.TheVariants.{Output}
 use Rattle.errors.proofs.Refusals.{passed_on}
 use Rattle.output.proofs.Outputs.{sets_append, writes_refusal, writes_sets, writes_short, pieces_length, pieces_listed}
 use Rattle.scripts.specs.Script.{whole, run}
-use Rattle.info_block.specs.InfoBlock.{name_at, list_length}
+use Rattle.info_block.specs.InfoBlock.{NameList, name_at, list_at, list_length}
 use Rattle.reading.specs.Tex.{Texture, Contents, header_of, read_tex}
 use Rattle.reading.specs.Layouts.{layout_of, layout_answer}
-use Rattle.layout.specs.Positions.{count_of}
-use Rattle.places.specs.ByLayout.{places_by}
-use Rattle.rows.specs.ByLayout.{list_end, row_length, row_by}
-use Rattle.rows.specs.Rows.{place_of, Inside, name_place, data1_place, data2_place, texture_row, palette_row, rows_in, rows_of}
+use Rattle.layout.specs.Positions.{count_of, list_pos}
+use Rattle.rows.specs.ByLayout.{row_length, row, texture_row, palette_row}
+use Rattle.rows.specs.Rows as Rows
+use Rattle.rows.specs.Rows.{place_of, Inside, name_place, data1_place, data2_place, rows_in, rows_of}
+use Rattle.layout.specs.declared.Header.{Header}
 use Rattle.layout.specs.declared.Layout.{Layout}
 use Rattle.scripts.proofs.Runs.{whole_outcome, ended, follows_self, refused}
 use Rattle.reading.proofs.Readings.{finished, textures_listed, palettes_listed}
@@ -44,60 +45,59 @@ row_copied rows row at n long room same =
     rw (n_is, same, ← long, drop-drop, sets-eq row rows at (rw long room), append_assoc)
 
 -- rows of one length, one behind the other
-module _ (kind : Kind) (b : List ℕ) (l : Layout) where
-  row_length_lem : (n : ℕ) → length (row_by kind b l n) ≡ row_length kind
-  unfolding row_by
+module _ (kind : Kind) (h : Header) (list : NameList) where
+  row_length_lem : (n : ℕ) → length (row kind h list n) ≡ row_length kind
+  unfolding texture_row palette_row
   row_length_lem n = by_kind kind
     where
-      by_kind : (k : Kind) → length (row_by k b l n) ≡ row_length k
+      by_kind : (k : Kind) → length (row k h list n) ≡ row_length k
       by_kind kinds.Texture = refl
       by_kind kinds.Palette = refl
 
-  pub rows_length : (n : ℕ) → length (pieces (row_by kind b l) n) ≡ n * row_length kind
-  rows_length n = pieces_length (row_by kind b l) (row_length kind) n (λ i h. row_length_lem i)
+  pub rows_length : (n : ℕ) → length (pieces (row kind h list) n) ≡ n * row_length kind
+  rows_length n = pieces_length (row kind h list) (row_length kind) n (λ i h. row_length_lem i)
 
-  pub row_behind : (n : ℕ) (entry : List ℕ) {out : List ℕ} → out ≡ sets entry 0 (pieces (row_by kind b l) n)
-      → sets out (n * row_length kind) (row_by kind b l n) ≡ sets entry 0 (pieces (row_by kind b l) (n + 1))
+  pub row_behind : (n : ℕ) (entry : List ℕ) {out : List ℕ} → out ≡ sets entry 0 (pieces (row kind h list) n)
+      → sets out (n * row_length kind) (row kind h list n) ≡ sets entry 0 (pieces (row kind h list) (n + 1))
   unfolding pieces
   row_behind n entry e =
-      rw (e, add-one, ← rows_length n, ← sets_append entry 0 (pieces (row_by kind b l) n) (row_by kind b l n), zero-add)
+      rw (e, add-one, ← rows_length n, ← sets_append entry 0 (pieces (row kind h list) n) (row kind h list n), zero-add)
 
 -- there is room for one that is left
 pub row_room : (m n count : ℕ) {len : ℕ} → n < count → count * m ≤ len → n * m + m ≤ len
 row_room m n count h r = omega (arith, mul-le-mul_right m h, suc-mul n m, r)
 
--- as many numbers as the block has bytes, or fewer
-entries_few : (kind : Kind) (l : Layout) → count_of kind l * row_length kind ≤ list_end kind l
-entries_few kinds.Texture l = omega arith
-entries_few kinds.Palette l = omega arith
+-- the list of a layout
+abbrev list_in : Kind → (b : List ℕ) → Layout → NameList
+list_in kind b l = list_at kind (list_pos kind l.header) (count_of kind l) b
 
--- the rows of a finished reading, by the layout
+-- as many numbers as the list has bytes, or fewer
+entries_few : (kind : Kind) (c : ℕ) → c * row_length kind ≤ list_length kind c
+entries_few kinds.Texture c = omega arith
+entries_few kinds.Palette c = omega arith
+
+-- the rows of a finished reading, by its lists
 module _ (b : List ℕ) {c : Contents} (is : run read_tex b ≡ whole c) where
-  list_within : (kind : Kind) → list_end kind (layout_of b c) ≤ length b
-  list_within kinds.Texture = (textures_listed (header_of (take 60 b)) b (finished b is).textures).within
-  list_within kinds.Palette = (palettes_listed (header_of (take 60 b)) b (finished b is).palettes).within
-
-  rows_laid : (kind : Kind) → pieces (row_by kind b (layout_of b c)) (count_of kind (layout_of b c)) ≡ rows_in kind (header_of (take 60 b)) c
-  unfolding row_by places_by texture_row palette_row place_of
+  rows_laid : (kind : Kind)
+      → pieces (row kind (header_of (take 60 b)) (list_in kind b (layout_of b c))) (count_of kind (layout_of b c))
+      ≡ rows_in kind (header_of (take 60 b)) c
+  unfolding texture_row palette_row Rows.texture_row Rows.palette_row place_of
   rows_laid kinds.Texture =
-      pieces_listed (texture_row (header_of (take 60 b)) (length c.textures)) blank_texture c.textures 0 _
+      pieces_listed (Rows.texture_row (header_of (take 60 b)) (length c.textures)) blank_texture c.textures 0 _
       (λ n below.
       let t = (textures_listed (header_of (take 60 b)) b (finished b is).textures).at n blank_texture below in
       rw (zero-add, t.word, t.parts.first_length, t.parts.second_length_lem))
   rows_laid kinds.Palette =
-      pieces_listed (palette_row (header_of (take 60 b)) (length c.palettes)) blank_palette c.palettes 0 _
+      pieces_listed (Rows.palette_row (header_of (take 60 b)) (length c.palettes)) blank_palette c.palettes 0 _
       (λ n below. rw (zero-add, (palettes_listed (header_of (take 60 b)) b (finished b is).palettes).at n blank_palette below))
 
-pub record RowsFound (kind : Kind) (b : List ℕ) (l : Layout) : Type 0 where
-  pub within : list_end kind l ≤ length b
-  pub made : result (pieces (row_by kind b l) (count_of kind l)) ≡ rows_of kind b (run read_tex b)
-
-pub rows_found : (kind : Kind) (b : List ℕ) {l : Layout} → result l ≡ layout_answer b (run read_tex b) → RowsFound kind b l
+-- those of a block that was read
+rows_found : (kind : Kind) (b : List ℕ) {l : Layout} → result l ≡ layout_answer b (run read_tex b)
+    → result (pieces (row kind l.header (list_in kind b l)) (count_of kind l)) ≡ rows_of kind b (run read_tex b)
 unfolding layout_answer rows_of
 rows_found kind b e =
     let o = ended (run read_tex b) (layout_of b) e in
-    subst (RowsFound kind b) (sym o.gives)
-    (record { within = list_within b o.is kind; made = ap result (rows_laid b o.is kind) ∙ whole_outcome _ o.is })
+    rw o.gives (ap result (rows_laid b o.is kind) ∙ whole_outcome _ o.is)
 
 -- what the code does with them: they are written where there is room, and are not where there is none
 module _ (kind : Kind) (b : List ℕ) (entry : List ℕ) where
@@ -106,26 +106,29 @@ module _ (kind : Kind) (b : List ℕ) (entry : List ℕ) where
   unfolding layout_answer rows_of
   rows_refused answer r is e = rw (passed_on answer r is) (writes_refusal r entry (refused _ _ (follows_self _) _ _ r e))
 
-  module _ {l : Layout} (laid : result l ≡ layout_answer b (run read_tex b)) where
-    pub rows_within : list_end kind l ≤ length b
-    rows_within = (rows_found kind b laid).within
+  -- by the list that the code has of the block
+  module _ {l : Layout} (laid : result l ≡ layout_answer b (run read_tex b)) {block : List ℕ} (same : block ≡ b)
+      {k : Kind} (of_kind : k ≡ kind) {list : NameList} (is : list ≡ list_in kind block l) where
+    found : result (pieces (row k l.header list) list.count) ≡ rows_of kind b (run read_tex b)
+    found = rw (of_kind, is, same) (rows_found kind b laid)
 
-    pub rows_few : count_of kind l * row_length kind ≤ length b
-    rows_few = omega (arith, entries_few kind l, rows_within)
-
-    pub rows_written : count_of kind l * row_length kind ≤ length entry
-        → Writes (rows_of kind b (run read_tex b)) entry (result (count_of kind l * row_length kind))
-        (sets entry 0 (pieces (row_by kind b l) (count_of kind l)))
+    pub rows_written : list.count * row_length kind ≤ length entry
+        → Writes (rows_of kind b (run read_tex b)) entry (result (list.count * row_length kind))
+        (sets entry 0 (pieces (row k l.header list) list.count))
     rows_written h =
-        rw (← (rows_found kind b laid).made, ← rows_length kind b l (count_of kind l))
-        (writes_sets (pieces (row_by kind b l) (count_of kind l)) entry (rw rows_length h))
+        rw (← found, ← of_kind, ← rows_length k l.header list list.count)
+        (writes_sets (pieces (row k l.header list) list.count) entry (rw (rows_length, of_kind) h))
 
-    pub rows_unwritten : length entry < count_of kind l * row_length kind → Writes (rows_of kind b (run read_tex b)) entry (refusal_outcome Output) entry
+    pub rows_unwritten : length entry < list.count * row_length kind → Writes (rows_of kind b (run read_tex b)) entry (refusal_outcome Output) entry
     rows_unwritten h =
-        rw (← (rows_found kind b laid).made) (writes_short (pieces (row_by kind b l) (count_of kind l)) entry (rw rows_length h))
+        rw (← found) (writes_short (pieces (row k l.header list) list.count) entry (rw (rows_length, of_kind) h))
+
+-- a list has as many numbers in its rows as bytes, or fewer
+pub rows_few : (kind : Kind) (c : ℕ) {n : ℕ} → n ≡ list_length kind c → c * row_length kind ≤ n
+rows_few kind c e = rw e (entries_few kind c)
 
 -- for the function that writes them
-pub ruleset writes_rows = (rows_within, rows_few, rows_written)
+pub ruleset writes_rows = (rows_few, rows_written, rows_unwritten)
 
 -- a part that was taken, by its place
 pub place_inside : (b : List ℕ) (p n : ℕ) → Inside b (taken_part p n b) (place_of p (taken_part p n b))

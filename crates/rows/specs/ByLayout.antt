@@ -1,22 +1,17 @@
--- The rows by the layout, as the private functions put them; no public contract cites it. Assumes nothing.
+-- The rows by the header and a list, as the private functions put them; no public contract cites it. Assumes nothing.
 use Rattle.std.specs.Prelude.{ℕ, ◌+◌, ◌*◌, List, [], ◌∷◌, None}
 use Rattle.errors.specs.declared.Kind.{Kind}
 use Rattle.errors.specs.declared.Kind.TheVariants as kind
-use Rattle.info_block.specs.InfoBlock.{list_at, list_length, name_at, entry_number}
-use Rattle.layout.specs.declared.Layout.{Layout}
-use Rattle.places.specs.ByLayout.{places_by}
+use Rattle.info_block.specs.InfoBlock.{NameList, name_at, entry_number}
+use Rattle.layout.specs.Positions.{list_pos}
+use Rattle.layout.specs.declared.Header.{Header}
+use Rattle.places.specs.Sources.{places_at}
 use Rattle.places.specs.declared.Places.{Places}
 use Rattle.rows.specs.Rows.{told_pos}
 
--- Where the list of kind k ends.
-abbrev pub list_end : Kind → Layout → ℕ
-list_end kind.Texture l = l.header.texture_off + list_length kind.Texture l.textures
-list_end kind.Palette l = l.header.palette_off + list_length kind.Palette l.palettes
-
--- The row of entry n, by the layout, and how many numbers it has.
-abbrev pub row_length : Kind → ℕ
-row_length kind.Texture = 6
-row_length kind.Palette = 2
+-- Where name n of a list of c entries begins in the block.
+abbrev pub name_pos : Kind → Header → (c n : ℕ) → ℕ
+name_pos k h c n = list_pos k h + name_at k c n
 
 abbrev pub places_row : (name : ℕ) → Places → List ℕ
 places_row name places =
@@ -28,9 +23,18 @@ places_row name places =
     ∷ places.data2.len
     ∷ []
 
-unfoldable pub row_by : Kind → (block : List ℕ) → Layout → (n : ℕ) → List ℕ
-row_by kind.Texture block l n = places_row (l.header.texture_off + name_at kind.Texture l.textures n) (places_by block l n None)
-row_by kind.Palette block l n =
-    (l.header.palette_off + name_at kind.Palette l.palettes n)
-    ∷ 8 * entry_number kind.Palette 2 (list_at kind.Palette l.header.palette_off l.palettes block) n
-    ∷ []
+-- The row of entry n as a texture's, and as a palette's.
+unfoldable pub texture_row : Kind → Header → NameList → (n : ℕ) → List ℕ
+texture_row k h list n = places_row (name_pos k h list.count n) (places_at h (entry_number k 4 list n) None)
+
+unfoldable pub palette_row : Kind → Header → NameList → (n : ℕ) → List ℕ
+palette_row k h list n = name_pos k h list.count n ∷ 8 * entry_number k 2 list n ∷ []
+
+-- The row of entry n of a list of kind k, and how many numbers it has.
+abbrev pub row : Kind → Header → NameList → (n : ℕ) → List ℕ
+row kind.Texture = texture_row kind.Texture
+row kind.Palette = palette_row kind.Palette
+
+abbrev pub row_length : Kind → ℕ
+row_length kind.Texture = 6
+row_length kind.Palette = 2

@@ -5,16 +5,16 @@
 ghost use Rattle.std.specs.Prelude.{◌≡◌, ◌+◌, ◌*◌, ◌<◌, ◌≤◌, length};
 ghost use Rattle.std.proofs.lemmas.List.Edits.{sets};
 ghost use Rattle.errors.specs.Refusal.{result_outcome};
-ghost use Rattle.errors.specs.declared.Kind.TheVariants as kinds;
 ghost use Rattle.output.specs.Output.{Writes, pieces};
 ghost use Rattle.scripts.specs.Script.{run};
-ghost use Rattle.layout.specs.Positions.{count_of};
+ghost use Rattle.info_block.specs.Lists.{listed};
 ghost use Rattle.reading.specs.Tex.{read_tex};
 ghost use Rattle.rows.specs.ByLayout as ByLayout;
 ghost use Rattle.rows.specs.Rows as Rows;
 
 use errors::{Kind, Refusal};
-use layout::{count_of, off_at, params_at};
+use info_block::name_list::{Entry, NameList};
+use layout::{Header, list_pos, off_at, params_at};
 use places::{Place, places_of};
 use reading::tex::Tex;
 
@@ -35,17 +35,21 @@ fn told_pos(place: Place) -> usize
     if place.len == 0 { 0 } else { place.pos }
 }
 
-// The row of texture n: where its name begins, its word, and the places of its data.
-#[tactic(auto, unfolding(crate::specs::ByLayout::row_by, places::specs::ByLayout::places_by))]
-fn texture_row(tex: Tex, n: usize) -> [usize; 6]
-    requires { n < tex.layout.textures }
-    ensures { result ≡ ByLayout.row_by kinds.Texture tex.entry.block.now tex.entry.layout n }
+// Where an entry's name begins in the block.
+fn name_pos(header: Header, entry: Entry) -> usize
+    ensures { result ≡ ByLayout.name_pos entry.entry.list.kind header entry.entry.list.count entry.entry.n }
 {
-    let header = tex.layout.header;
-    let list = tex.list(Kind::Texture);
-    let places = places_of(header, params_at(list.entry(n)), None);
+    list_pos(entry.list.kind, header) + entry.name_pos()
+}
+
+// The row of a texture: where its name begins, its word, and the places of its data.
+#[tactic(auto, unfolding(crate::specs::ByLayout::texture_row))]
+fn texture_row(header: Header, texture: Entry) -> [usize; 6]
+    ensures { result ≡ ByLayout.texture_row texture.entry.list.kind header (listed texture.entry.list) texture.entry.n }
+{
+    let places = places_of(header, params_at(texture), None);
     [
-        header.texture_off as usize + list.name_pos(n),
+        name_pos(header, texture),
         places.params.0 as usize,
         told_pos(places.data1),
         places.data1.len,
@@ -54,17 +58,12 @@ fn texture_row(tex: Tex, n: usize) -> [usize; 6]
     ]
 }
 
-// The row of palette n: where its name begins, and its offset.
-#[tactic(auto, unfolding(crate::specs::ByLayout::row_by))]
-fn palette_row(tex: Tex, n: usize) -> [usize; 2]
-    requires { n < tex.layout.palettes }
-    ensures { result ≡ ByLayout.row_by kinds.Palette tex.entry.block.now tex.entry.layout n }
+// The row of a palette: where its name begins, and its offset.
+#[tactic(auto, unfolding(crate::specs::ByLayout::palette_row))]
+fn palette_row(header: Header, palette: Entry) -> [usize; 2]
+    ensures { result ≡ ByLayout.palette_row palette.entry.list.kind header (listed palette.entry.list) palette.entry.n }
 {
-    let list = tex.list(Kind::Palette);
-    [
-        tex.layout.header.palette_off as usize + list.name_pos(n),
-        off_at(list.entry(n)) as usize,
-    ]
+    [name_pos(header, palette), off_at(palette) as usize]
 }
 
 // Puts a row.
@@ -76,26 +75,27 @@ fn put_row<const N: usize>(rows: &mut [usize], at: usize, row: [usize; N])
     rows[at..at + N].copy_from_slice(&row);
 }
 
-// Puts the row of entry n.
-fn put_entry(rows: &mut [usize], at: usize, tex: Tex, kind: Kind, n: usize)
-    requires { (at + ByLayout.row_length kind ≤ length rows.old) × (n < count_of kind tex.layout) }
-    ensures { rows.new ≡ sets rows.old at (ByLayout.row_by kind tex.entry.block.now tex.entry.layout n) }
+// Puts the row of an entry.
+#[tactic(auto, unfolding(crate::specs::ByLayout::texture_row, crate::specs::ByLayout::palette_row))]
+fn put_entry(rows: &mut [usize], at: usize, header: Header, entry: Entry)
+    requires { at + ByLayout.row_length entry.list.kind ≤ length rows.old }
+    ensures { rows.new ≡ sets rows.old at (ByLayout.row entry.entry.list.kind header (listed entry.entry.list) entry.entry.n) }
 {
-    match kind {
-        Kind::Texture => put_row(rows, at, texture_row(tex, n)),
-        Kind::Palette => put_row(rows, at, palette_row(tex, n)),
+    match entry.list.kind {
+        Kind::Texture => put_row(rows, at, texture_row(header, entry)),
+        Kind::Palette => put_row(rows, at, palette_row(header, entry)),
     }
 }
 
 // Puts the rows of all entries.
 #[tactic(auto, using(crate::proofs::Entries::row_behind), unfolding(output::specs::Output::pieces))]
-fn put_rows(rows: &mut [usize], tex: Tex, kind: Kind)
-    requires { count_of kind tex.layout * ByLayout.row_length kind ≤ length rows.old }
-    ensures { rows.new ≡ sets rows.old 0 (pieces (ByLayout.row_by kind tex.entry.block.now tex.entry.layout) (count_of kind tex.entry.layout)) }
+fn put_rows(rows: &mut [usize], header: Header, list: NameList)
+    requires { list.count * ByLayout.row_length list.kind ≤ length rows.old }
+    ensures { rows.new ≡ sets rows.old 0 (pieces (ByLayout.row list.entry.kind header (listed list.entry)) list.entry.count) }
 {
-    let len = row_len(kind);
-    for n in 0..count_of(kind, tex.layout) {
-        put_entry(rows, n * len, tex, kind, n);
+    let len = row_len(list.kind);
+    for n in 0..list.count {
+        put_entry(rows, n * len, header, list.entry(n));
     }
 }
 
@@ -107,10 +107,11 @@ pub fn rows(block: &[u8], kind: Kind, out: &mut [usize]) -> Result<usize, Refusa
     ensures { Writes (Rows.rows_of kind block.now (run read_tex block.now)) out.old (result_outcome result) out.new }
 {
     let tex = Tex::read(block)?;
-    let len = count_of(kind, tex.layout) * row_len(kind);
+    let list = tex.list(kind);
+    let len = list.count * row_len(kind);
     if out.len() < len {
         return Err(Refusal::Output);
     }
-    put_rows(out, tex, kind);
+    put_rows(out, tex.layout.header, list);
     Ok(len)
 }

@@ -2,8 +2,9 @@
 use mathlib.Core.Path.{◌≡◌}
 use lib.Seq.{sets}
 use Rattle.output.specs.Output.{pieces}
-use Rattle.rows.specs.ByLayout.{row_by}
+use Rattle.info_block.specs.Lists.{listed}
+use Rattle.rows.specs.ByLayout.{row}
 use Rattle.rows.proofs.put_rows.Given as goal
 
 abbrev pub invariant-loop-n : goal.invariant-loop-n
-invariant-loop-n l = l.rows ≡ sets l.initial.rows 0 (pieces (row_by l.kind l.tex.block.now l.tex.layout) l.n)
+invariant-loop-n l = l.rows ≡ sets l.initial.rows 0 (pieces (row l.list.kind l.header (listed l.list)) l.n)
