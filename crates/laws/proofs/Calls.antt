@@ -17,7 +17,7 @@ use Rattle.output.specs.Output.{write_outcome, write_output}
 use Rattle.errors.specs.declared.Kind.{Kind}
 use Rattle.errors.specs.declared.Kind.TheVariants as kinds
 use Rattle.scripts.specs.Script.{Script, Answer, short, fault, whole, run, outcome_of}
-use Rattle.info_block.specs.InfoBlock.{name_list, list_count}
+use Rattle.info_block.specs.InfoBlock.{NameList, name_list}
 use Rattle.reading.specs.Tex.{Palette, Contents, header_of, read_tex}
 use Rattle.reading.specs.Layouts.{layout_answer}
 use Rattle.layout.specs.declared.Layout.{Layout}
@@ -96,11 +96,11 @@ entry_not k f (x ∷ xs) zero w e = result_not w e
 entry_not k f (x ∷ xs) (suc n) w e = entry_not k f xs n w e
 
 -- the calls of `nitro`
-pub list_scripted : (kind : Kind) (pos : ℕ) → Scripted (name_list kind pos) (list_count (name_list kind pos)) nothing tt
+pub list_scripted : (kind : Kind) (pos : ℕ) → Scripted (name_list kind pos) (λ b. outcome_of (run (name_list kind pos) b) result) nothing tt
 unfolding outcome_of
 list_scripted kind pos =
-    of_answer (name_list kind pos) (λ a. outcome_of a (λ list. result list.count)) (λ _. tt {0}) tt (λ w. (refl, refl))
-    (λ a w e. outcome_short a _ (λ _. result_not {A = ℕ}) w e)
+    of_answer (name_list kind pos) (λ a. outcome_of a result) (λ _. tt {0}) tt (λ w. (refl, refl))
+    (λ a w e. outcome_short a _ (λ _. result_not {A = NameList}) w e)
 
 reading_short : (a : Answer Contents) (w : ℕ) → Calls.reading_of a ≡ refusal 1 w → a ≡ short w
 unfolding Calls.reading_of

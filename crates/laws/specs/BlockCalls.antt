@@ -2,16 +2,16 @@
 -- place, a picture's places, rows, pictures and images. A law that is to hold of all of them is stated once, over a call as a value; `BlockCalls`
 -- of that law has a field for each call. So a call that is added here owes every law of the list.
 --
--- Not here: the forms by a layout or by places, which are handed what a reading of the same bytes found; fetching runs, which are lent the whole
+-- Not here: the forms by a block that was read or by places, which are handed what a reading of the same bytes found; fetching runs, which are lent the whole
 -- block (`stream` specs/Fetch.antt); the listing, which has a text also for a block that is refused, and so another text for a block that is cut;
 -- and `show::show`, which takes a file and is `pam` for one that is not too long. A form for C is not here either: it tells what these calls answer and leave,
 -- by equations over that alone (`told` specs/Told.antt), so what a law says of the call it says of the form. Assumes nothing.
 use Rattle.std.specs.Prelude.{ℕ, List, [], Option}
-use Rattle.util.specs.Outcome.{Outcome}
+use Rattle.util.specs.Outcome.{Outcome, result}
 use Rattle.errors.specs.declared.Kind.{Kind}
 use Rattle.output.specs.Output.{write_outcome, write_output}
-use Rattle.scripts.specs.Script.{run}
-use Rattle.info_block.specs.InfoBlock.{name_list, list_count}
+use Rattle.scripts.specs.Script.{run, outcome_of}
+use Rattle.info_block.specs.InfoBlock.{NameList, name_list}
 use Rattle.reading.specs.Tex.{read_tex}
 use Rattle.reading.specs.Layouts.{layout_answer}
 use Rattle.layout.specs.declared.Layout.{Layout}
@@ -45,9 +45,9 @@ abbrev pub writing : (made : List ℕ → Outcome (List ℕ)) (output : List ℕ
 writing made output = record { answer = λ b. write_outcome (made b) output; beside = λ b. write_output (made b) output; declined = output }
 
 -- Each call, by its name in the code: what its contract says that it answers and leaves.
--- `info_block::read`: the count of a list.
-abbrev pub block_read : (kind : Kind) (pos : ℕ) → BlockCall ℕ (Unit {0})
-block_read kind pos = answering (list_count (name_list kind pos))
+-- `info_block::read`: a list, its count and its bytes.
+abbrev pub block_read : (kind : Kind) (pos : ℕ) → BlockCall NameList (Unit {0})
+block_read kind pos = answering (λ b. outcome_of (run (name_list kind pos) b) result)
 
 -- `reading::lay_out`: a block's layout.
 abbrev pub block_lay_out : BlockCall Layout (Unit {0})
