@@ -1,18 +1,17 @@
-// The lines of a listing: a texture's and a palette's record as text, put at a place of an output. Each function returns the place behind what
-// it put. The caller shows that there is room.
+// The lines of a listing: a texture's and a palette's record as text, put into an output. The caller shows that there is room.
 
 #![tactic(auto)]
 
 ghost use Rattle.std.specs.Prelude.{◌++◌, ◌≡◌};
 ghost use Rattle.name.specs.Name.{safe_text};
-ghost use Rattle.text.specs.Put.{Room, Put};
+ghost use Rattle.text.specs.Writer.{HasRoom, Adds};
 ghost use Rattle.lines.specs.Lines as Lines;
 
 use name::Name;
 use nds::texture_formats::Alpha;
 use nds::wrap::Wrap;
 use nitro::tex::{PaletteRecord, TextureRecord};
-use text::{put, put_field, put_number};
+use text::Writer;
 
 // The word for how an axis wraps.
 #[tactic(auto, unfolding(crate::specs::Lines::wrap_word, text::specs::Text::ascii))]
@@ -39,38 +38,38 @@ fn alpha_word(alpha: Alpha) -> &'static [u8]
 }
 
 // A name in letters, digits and underscores, and the space or line end behind it. The text has room, so it is never refused.
-fn put_name(out: &mut [u8], at: usize, name: Name, end: &[u8]) -> usize
-    requires { Room (safe_text name.0 ++ end.now) out.old at }
-    ensures { Put (safe_text name.0 ++ end.now) out.old at out.new result }
+fn put_name(writer: &mut Writer<'_>, name: Name, end: &[u8])
+    requires { HasRoom (safe_text name.0 ++ end.now) writer.old }
+    ensures { Adds (safe_text name.0 ++ end.now) writer.old writer.new }
 {
-    let len = name.print_safe(&mut out[at..]).unwrap();
-    put(out, at + len, end)
+    writer.at += name.print_safe(&mut writer.out[writer.at..]).unwrap();
+    writer.put(end);
 }
 
 // The line of texture n.
 #[tactic(auto, using(text::proofs::Puts::puts), unfolding(text::specs::Text::line, text::specs::Text::ascii, crate::specs::Lines::texture_line))]
-pub fn put_texture(out: &mut [u8], at: usize, n: usize, texture: TextureRecord) -> usize
-    requires { Room (Lines.texture_line n texture) out.old at }
-    ensures { Put (Lines.texture_line n texture) out.old at out.new result }
+pub fn put_texture(writer: &mut Writer<'_>, n: usize, texture: TextureRecord)
+    requires { HasRoom (Lines.texture_line n texture) writer.old }
+    ensures { Adds (Lines.texture_line n texture) writer.old writer.new }
 {
     let params = texture.params;
-    let at = put_number(out, at, n, b" ");
-    let at = put_name(out, at, texture.name, b" ");
-    let at = put_number(out, at, params.format().number() as usize, b" ");
-    let at = put_number(out, at, params.width() as usize, b" ");
-    let at = put_number(out, at, params.height() as usize, b" ");
-    let at = put_field(out, at, wrap_word(texture.wrap_s), b" ");
-    let at = put_field(out, at, wrap_word(texture.wrap_t), b" ");
-    put_field(out, at, alpha_word(texture.alpha), b"\n")
+    writer.put_number(n, b" ");
+    put_name(writer, texture.name, b" ");
+    writer.put_number(params.format().number() as usize, b" ");
+    writer.put_number(params.width() as usize, b" ");
+    writer.put_number(params.height() as usize, b" ");
+    writer.put_field(wrap_word(texture.wrap_s), b" ");
+    writer.put_field(wrap_word(texture.wrap_t), b" ");
+    writer.put_field(alpha_word(texture.alpha), b"\n");
 }
 
 // The line of palette n.
 #[tactic(auto, using(text::proofs::Puts::puts), unfolding(text::specs::Text::line, text::specs::Text::ascii, crate::specs::Lines::palette_line))]
-pub fn put_palette(out: &mut [u8], at: usize, n: usize, palette: PaletteRecord) -> usize
-    requires { Room (Lines.palette_line n palette) out.old at }
-    ensures { Put (Lines.palette_line n palette) out.old at out.new result }
+pub fn put_palette(writer: &mut Writer<'_>, n: usize, palette: PaletteRecord)
+    requires { HasRoom (Lines.palette_line n palette) writer.old }
+    ensures { Adds (Lines.palette_line n palette) writer.old writer.new }
 {
-    let at = put_number(out, at, n, b" ");
-    let at = put_name(out, at, palette.name, b" ");
-    put_number(out, at, palette.off as usize, b"\n")
+    writer.put_number(n, b" ");
+    put_name(writer, palette.name, b" ");
+    writer.put_number(palette.off as usize, b"\n");
 }

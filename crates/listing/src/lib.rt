@@ -12,7 +12,7 @@ ghost use Rattle.reading.specs.Tex.{read_tex};
 ghost use Rattle.reading.specs.Blocks.{layout_in};
 ghost use Rattle.layout.specs.Positions.{count_of};
 ghost use Rattle.text.specs.Text.{decimal, line};
-ghost use Rattle.text.specs.Put.{Room, Put};
+ghost use Rattle.text.specs.Writer.{HasRoom, Adds};
 ghost use Rattle.listing.specs.Listing as Listing;
 ghost use Rattle.listing.specs.Lists as Lists;
 
@@ -22,7 +22,7 @@ use lines::{put_palette, put_texture};
 use nitro::tex::{palette_by, texture_by};
 use reading::tex::Tex;
 use refused::put_refused;
-use text::{put, put_field, put_number};
+use text::{Writer, write};
 
 // The longest input that is read, in bytes.
 pub const MAX_INPUT: usize = 65536;
@@ -31,13 +31,13 @@ pub const MAX_INPUT: usize = 65536;
 pub const MAX_LISTING: usize = 22211;
 
 // The line of texture or palette n.
-fn put_entry(out: &mut [u8], at: usize, tex: Tex, kind: Kind, n: usize) -> usize
-    requires { (n < count_of kind tex.layout) × Room (Lists.entry_line kind (run read_tex tex.block.now) n) out.old at }
-    ensures { Put (Lists.entry_line kind (run read_tex tex.entry.block.now) n) out.old at out.new result }
+fn put_entry(writer: &mut Writer<'_>, tex: Tex, kind: Kind, n: usize)
+    requires { (n < count_of kind tex.layout) × HasRoom (Lists.entry_line kind (run read_tex tex.block.now) n) writer.old }
+    ensures { Adds (Lists.entry_line kind (run read_tex tex.entry.block.now) n) writer.old writer.new }
 {
     match kind {
-        Kind::Texture => put_texture(out, at, n, texture_by(tex, n)),
-        Kind::Palette => put_palette(out, at, n, palette_by(tex, n)),
+        Kind::Texture => put_texture(writer, n, texture_by(tex, n)),
+        Kind::Palette => put_palette(writer, n, palette_by(tex, n)),
     }
 }
 
@@ -54,26 +54,25 @@ fn list_word(kind: Kind) -> &'static [u8]
 
 // The line that a list opens with.
 #[tactic(auto, using(text::proofs::Puts::puts), unfolding(text::specs::Text::line, text::specs::Text::ascii))]
-fn put_heading(out: &mut [u8], at: usize, kind: Kind, count: usize) -> usize
-    requires { Room (line (Lists.list_word kind ∷ decimal count ∷ [])) out.old at }
-    ensures { Put (line (Lists.list_word kind ∷ decimal count ∷ [])) out.old at out.new result }
+fn put_heading(writer: &mut Writer<'_>, kind: Kind, count: usize)
+    requires { HasRoom (line (Lists.list_word kind ∷ decimal count ∷ [])) writer.old }
+    ensures { Adds (line (Lists.list_word kind ∷ decimal count ∷ [])) writer.old writer.new }
 {
-    let at = put_field(out, at, list_word(kind), b" ");
-    put_number(out, at, count, b"\n")
+    writer.put_field(list_word(kind), b" ");
+    writer.put_number(count, b"\n");
 }
 
 // The list of the block's textures or palettes. All lines are of one reading.
 #[tactic(auto, using(crate::proofs::Lists::each_line), unfolding(crate::specs::Lists::list_of))]
-fn put_list(out: &mut [u8], at: usize, tex: Tex, kind: Kind) -> usize
-    requires { Room (Lists.list_of kind (run read_tex tex.block.now) (count_of kind tex.layout)) out.old at }
-    ensures { Put (Lists.list_of kind (run read_tex tex.entry.block.now) (count_of kind tex.entry.layout)) out.old at out.new result }
+fn put_list(writer: &mut Writer<'_>, tex: Tex, kind: Kind)
+    requires { HasRoom (Lists.list_of kind (run read_tex tex.block.now) (count_of kind tex.layout)) writer.old }
+    ensures { Adds (Lists.list_of kind (run read_tex tex.entry.block.now) (count_of kind tex.entry.layout)) writer.old writer.new }
 {
     let count = count_of(kind, tex.layout);
-    let mut at = put_heading(out, at, kind, count);
+    put_heading(writer, kind, count);
     for n in 0..count {
-        at = put_entry(out, at, tex, kind, n);
+        put_entry(writer, tex, kind, n);
     }
-    at
 }
 
 // Reads an input that is not too long.
@@ -88,18 +87,18 @@ fn read(input: &[u8]) -> Result<Tex<'_>, Refusal>
     Tex::read(input)
 }
 
-// The whole listing, at the start of the output.
+// The whole listing.
 #[tactic(auto, using(text::proofs::Puts::puts, crate::proofs::Listings::listings))]
-fn put_listing(out: &mut [u8], input: &[u8]) -> usize
-    requires { Room (Listing.listing_text input.now) out.old 0 }
-    ensures { Put (Listing.listing_text input.now) out.old 0 out.new result }
+fn put_listing(writer: &mut Writer<'_>, input: &[u8])
+    requires { HasRoom (Listing.listing_text input.now) writer.old }
+    ensures { Adds (Listing.listing_text input.now) writer.old writer.new }
 {
     match read(input) {
         Ok(tex) => {
-            let at = put_list(out, 0, tex, Kind::Texture);
-            put_list(out, at, tex, Kind::Palette)
+            put_list(writer, tex, Kind::Texture);
+            put_list(writer, tex, Kind::Palette);
         }
-        Err(refusal) => put_refused(out, 0, refusal.number(), refusal.returned()),
+        Err(refusal) => put_refused(writer, refusal.number(), refusal.returned()),
     }
 }
 
@@ -110,7 +109,9 @@ pub fn list_whole(input: &[u8], out: &mut [u8; MAX_LISTING]) -> usize
     ensures value { Writes (answered (Listing.listing_text input.now)) out.old (answered result) out.new }
     ensures in_bounds { IsPrefixLen result out.new }
 {
-    put_listing(out, input)
+    let mut writer = Writer { out, at: 0 };
+    put_listing(&mut writer, input);
+    writer.at
 }
 
 // The same, to any output, which is not written where the listing is longer.
@@ -119,12 +120,11 @@ pub fn list(input: &[u8], out: &mut [u8]) -> Result<usize, Refusal>
     ensures { Writes (answered (Listing.listing_text input.now)) out.old (result_outcome result) out.new }
 {
     if MAX_LISTING <= out.len() {
-        return Ok(put_listing(out, input));
+        let mut writer = Writer { out, at: 0 };
+        put_listing(&mut writer, input);
+        return Ok(writer.at);
     }
     let mut text = [0; MAX_LISTING];
     let len = list_whole(input, &mut text);
-    if out.len() < len {
-        return Err(Refusal::Output);
-    }
-    Ok(put(out, 0, &text[..len]))
+    write(&text[..len], out)
 }

@@ -1,38 +1,85 @@
-// Texts that are put at a place of an output. Each function returns the place behind what it put. The caller shows that there is room.
+// Texts that are put into an output, one behind the other. The caller shows that there is room.
 
 #![tactic(auto)]
 
 ghost use Rattle.std.specs.Prelude.{◌++◌};
+ghost use Rattle.util.specs.Outcome.{result as answered};
+ghost use Rattle.output.specs.Output.{Writes};
+ghost use Rattle.errors.specs.Refusal.{result_outcome};
 ghost use Rattle.text.specs.Text.{decimal};
 ghost use Rattle.text.specs.Put.{Room, Put};
+ghost use Rattle.text.specs.Writer.{HasRoom, Adds};
 
-#[tactic(auto, using(crate::proofs::Puts::put_copy))]
+use errors::Refusal;
+
+// An output, and the place behind what has been put into it.
+#[derive(Drop)]
+pub struct Writer<'a> {
+    pub out: &'a mut [u8],
+    pub at: usize,
+}
+
+impl<'a> Writer<'a> {
+    #[tactic(auto, using(crate::proofs::Puts::put_copy))]
+    pub fn put(&mut self, text: &[u8])
+        requires { HasRoom text.now self.old }
+        ensures { Adds text.now self.old self.new }
+    {
+        let end = self.at + text.len();
+        self.out[self.at..end].copy_from_slice(text);
+        self.at = end;
+    }
+
+    // A field, and the space or line end behind it.
+    #[tactic(auto, using(crate::proofs::Puts::puts))]
+    pub fn put_field(&mut self, text: &[u8], end: &[u8])
+        requires { HasRoom (text.now ++ end.now) self.old }
+        ensures { Adds (text.now ++ end.now) self.old self.new }
+    {
+        self.put(text);
+        self.put(end);
+    }
+
+    // A number in decimal, and the space or line end behind it.
+    #[tactic(auto, using(crate::proofs::Decimals::decimal_digits))]
+    pub fn put_number(&mut self, n: usize, end: &[u8])
+        requires { HasRoom (decimal n ++ end.now) self.old }
+        ensures { Adds (decimal n ++ end.now) self.old self.new }
+    {
+        let mut digits = [0u8; 20];
+        let len = io::decimal(n as u64, &mut digits);
+        self.put_field(&digits[..len], end);
+    }
+}
+
+// Writes a text to an output that has room for it.
+#[tactic(auto, using(crate::proofs::Puts::whole, output::proofs::Outputs::sets_start))]
+pub fn write(text: &[u8], out: &mut [u8]) -> Result<usize, Refusal>
+    ensures { Writes (answered text.now) out.old (result_outcome result) out.new }
+{
+    if out.len() < text.len() {
+        return Err(Refusal::Output);
+    }
+    out[..text.len()].copy_from_slice(text);
+    Ok(text.len())
+}
+
+// `Writer::put` at a place of an output. The result is the place behind the text.
 pub fn put(out: &mut [u8], at: usize, text: &[u8]) -> usize
     requires { Room text.now out.old at }
     ensures { Put text.now out.old at out.new result }
 {
-    let end = at + text.len();
-    out[at..end].copy_from_slice(text);
-    end
+    let mut writer = Writer { out, at };
+    writer.put(text);
+    writer.at
 }
 
-// A field, and the space or line end behind it.
-#[tactic(auto, using(crate::proofs::Puts::puts))]
-pub fn put_field(out: &mut [u8], at: usize, text: &[u8], end: &[u8]) -> usize
-    requires { Room (text.now ++ end.now) out.old at }
-    ensures { Put (text.now ++ end.now) out.old at out.new result }
-{
-    let at = put(out, at, text);
-    put(out, at, end)
-}
-
-// A number in decimal, and the space or line end behind it.
-#[tactic(auto, using(crate::proofs::Decimals::decimal_digits))]
+// `Writer::put_number` at a place of an output. The result is the place behind it.
 pub fn put_number(out: &mut [u8], at: usize, n: usize, end: &[u8]) -> usize
     requires { Room (decimal n ++ end.now) out.old at }
     ensures { Put (decimal n ++ end.now) out.old at out.new result }
 {
-    let mut digits = [0u8; 20];
-    let len = io::decimal(n as u64, &mut digits);
-    put_field(out, at, &digits[..len], end)
+    let mut writer = Writer { out, at };
+    writer.put_number(n, end);
+    writer.at
 }

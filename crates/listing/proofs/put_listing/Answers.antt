@@ -5,15 +5,15 @@ use Rattle.text.proofs.Puts.{puts, room_first, room_then}
 use Rattle.listing.proofs.Listings.{read_lists}
 use Rattle.listing.proofs.put_listing.Goals as goal
 
-pub put_list-at-requires : goal.put_list-at-requires
-put_list-at-requires c =
-    let block = ap (λ x. x.now) c.in-Ok.ensures.of_block in
-    room_first _ _ (rw (read_lists _ c.in-Ok.tex.layout _ block c.in-Ok.ensures.value) at c.requires)
-
 pub put_list-requires : goal.put_list-requires
 put_list-requires c =
     let block = ap (λ x. x.now) c.in-Ok.ensures.of_block in
-    room_then c.put_list-at.ensures (rw (read_lists _ c.in-Ok.tex.layout _ block c.in-Ok.ensures.value) at c.requires)
+    room_first _ _ (rw (read_lists _ c.in-Ok.tex.layout _ block c.in-Ok.ensures.value) at c.requires)
+
+pub put_list-requires-in-Ok : goal.put_list-requires-in-Ok
+put_list-requires-in-Ok c =
+    let block = ap (λ x. x.now) c.in-Ok.ensures.of_block in
+    room_then c.put_list.ensures.put (rw (read_lists _ c.in-Ok.tex.layout _ block c.in-Ok.ensures.value) at c.requires)
 
 pub returns-in-Ok : goal.returns-in-Ok
 returns-in-Ok c =
