@@ -1,6 +1,6 @@
 -- Names, and the texts that they are written as. Assumes nothing.
-use Rattle.std.specs.Prelude.{ℕ, ◌+◌, ◌/◌, ◌%◌, Bool, cond, ◌&&◌, ◌||◌, eqb, leb, ltb}
-use mathlib.Core.List.{List, [], ◌∷◌, map, flat_map}
+use Rattle.std.specs.Prelude.{ℕ, ◌+◌, ◌/◌, ◌%◌, Bool, cond, ◌&&◌, ◌||◌, eqb, leb, ltb, List, [], ◌∷◌, map}
+use Rattle.std.specs.List.{flat_map}
 
 -- 01, "Modules" 7: "Trailing zero bytes are dropped." A byte stays where another stays behind it, or where it is not 0.
 abbrev pub before : ℕ → List ℕ → List ℕ
@@ -28,7 +28,7 @@ safe_text name = or_underscore (map safe_byte (trimmed name))
 
 -- "`Display` writes `.` below 20 hex, and bytes from 80 hex as two UTF-8 bytes": 110 and the upper bits of the byte's number, then 10
 -- and its lower six.
-abbrev pub display_byte : ℕ → List ℕ
+unfoldable pub display_byte : ℕ → List ℕ
 display_byte b = cond (ltb b 32) (46 ∷ []) (cond (ltb b 128) (b ∷ []) ((192 + b / 64) ∷ (128 + b % 64) ∷ []))
 
 unfoldable pub display_text : (name : List ℕ) → List ℕ

@@ -2,15 +2,14 @@
 
 #![tactic(auto)]
 
-ghost use Rattle.std.specs.Prelude.{◌≡◌, ◌+◌, ◌≤◌, length, take};
-ghost use mathlib.Core.List.{flat_map};
-ghost use Rattle.std.proofs.lemmas.List.Edits.{sets};
+ghost use Rattle.std.specs.Prelude.{◌≡◌, ◌≤◌, length, map, encode_utf8};
 ghost use Rattle.util.specs.Outcome.{result as answered};
 ghost use Rattle.output.specs.Output.{Writes};
 ghost use Rattle.errors.specs.Refusal.{result_outcome};
 ghost use Rattle.name.specs.Name as Text;
 
 use errors::Refusal;
+use text::{Writer, write};
 
 #[derive(Clone, Copy)]
 pub struct Name(pub [u8; 16]);
@@ -22,85 +21,56 @@ fn safe_byte(b: u8) -> u8
     if b.is_ascii_alphanumeric() { b } else { b'_' }
 }
 
-// The number of bytes that put_display writes for b.
-#[tactic(auto, using(crate::proofs::Texts::shows))]
-fn display_width(b: u8) -> usize
-    ensures { result ≡ length (Text.display_byte b) }
+// The character that display writes for b.
+#[tactic(auto, unfolding(std::specs::Prelude::encode_utf8, crate::specs::Name::display_byte))]
+fn display_char(b: u8) -> char
+    ensures { encode_utf8 result ≡ Text.display_byte b }
 {
-    if b < 0x80 { 1 } else { 2 }
-}
-
-// Writes b's character in UTF-8 at a place of the output, or a period where b is below 20 hex, and returns the place behind it.
-#[tactic(auto, using(crate::proofs::Texts::shows))]
-fn put_display(out: &mut [u8], at: usize, b: u8) -> usize
-    requires { at + length (Text.display_byte b) ≤ length out.old }
-    ensures value { result ≡ at + length (Text.display_byte b) }
-    ensures out_after { out.new ≡ sets out.old at (Text.display_byte b) }
-{
-    if b < 0x20 {
-        out[at] = b'.';
-        return at + 1;
-    }
-    if b < 0x80 {
-        out[at] = b;
-        return at + 1;
-    }
-    out[at] = 192 + b / 64;
-    out[at + 1] = 128 + b % 64;
-    at + 2
+    if b < 0x20 { '.' } else { char::from(b) }
 }
 
 impl Name {
-    // The length without trailing zeros.
-    fn trimmed_len(self) -> usize
-        ensures { result ≡ length (Text.trimmed self.0) }
+    // The bytes before the trailing zeros.
+    fn trimmed(&self) -> &[u8]
+        ensures value { result.now ≡ Text.trimmed self.now.0 }
+        ensures upper_bound { length result.now ≤ 16 }
     {
-        16 - self.0.iter().rev().take_while(|&&b| b == 0).count()
+        let zeros = self.0.iter().rev().take_while(|&&b| b == 0).count();
+        &self.0[..16 - zeros]
     }
 
-    // Writes the name as letters, digits and underscores, of which there is at least one.
+    // Each byte as a letter or digit, or an underscore.
+    fn safe_bytes(self) -> [u8; 16]
+        ensures { result ≡ map Text.safe_byte self.0 }
+    {
+        self.0.map(safe_byte)
+    }
+
+    // Writes the name as letters, digits and underscores, of which there is at least one: where no byte stays, the first zero is written.
+    #[tactic(auto, using(crate::proofs::Texts::safe_taken))]
     pub fn print_safe(self, out: &mut [u8]) -> Result<usize, Refusal>
         ensures { Writes (answered (Text.safe_text self.0)) out.old (result_outcome result) out.new }
     {
-        let bytes = self.0;
-        let n = self.trimmed_len();
-        if n == 0 {
-            if out.len() == 0 {
-                return Err(Refusal::Output);
-            }
-            out[0] = b'_';
-            return Ok(1);
-        }
-        if out.len() < n {
-            return Err(Refusal::Output);
-        }
-        for i in 0..n {
-            out[i] = safe_byte(bytes[i]);
-        }
-        Ok(n)
-    }
-
-    // The number of bytes that display writes for the first n bytes.
-    fn display_len(self, n: usize) -> usize
-        requires { n ≤ 16 }
-        ensures { result ≡ length (flat_map Text.display_byte (take n self.0)) }
-    {
-        self.0[..n].iter().map(|&b| display_width(b)).sum()
+        let text = self.safe_bytes();
+        let len = self.trimmed().len().max(1);
+        write(&text[..len], out)
     }
 
     // Writes the name in UTF-8, each byte as the character of that number, with a period for each byte below 20 hex.
+    #[tactic(auto, using(crate::proofs::Texts::each_shown), unfolding(crate::specs::Name::display_text))]
     pub fn display(self, out: &mut [u8]) -> Result<usize, Refusal>
         ensures { Writes (answered (Text.display_text self.0)) out.old (result_outcome result) out.new }
     {
-        let bytes = self.0;
-        let n = self.trimmed_len();
-        if out.len() < self.display_len(n) {
-            return Err(Refusal::Output);
+        let mut text = [0; 32];
+        let mut writer = Writer {
+            out: &mut text,
+            at: 0,
+        };
+        for b in self.trimmed() {
+            let mut character = [0; 4];
+            writer.put(display_char(*b).encode_utf8(&mut character).as_bytes());
         }
-        let mut end = 0;
-        for i in 0..n {
-            end = put_display(out, end, bytes[i]);
-        }
-        Ok(end)
+        let len = writer.at;
+        write(&text[..len], out)
     }
 }
