@@ -32,34 +32,58 @@ pub struct Layout {
     pub palettes: usize,
 }
 
-// The palette block's length in bytes.
-pub fn pal_block_len(header: Header) -> usize
-    ensures value { result ≡ 8 * header.pal_block_len_shr_3 }
-    ensures upper_bound { result < 2 ^ 19 }
-{
-    8 * (header.pal_block_len_shr_3 as usize)
-}
+impl Header {
+    // The palette block's length in bytes.
+    pub fn pal_block_len(self) -> usize
+        ensures value { result ≡ 8 * self.pal_block_len_shr_3 }
+        ensures upper_bound { result < 2 ^ 19 }
+    {
+        8 * (self.pal_block_len_shr_3 as usize)
+    }
 
-// Where a texture's data, or a block-compressed texture's first data, begins.
-#[tactic(auto, unfolding(crate::specs::Positions::data_at))]
-pub fn data1_pos(header: Header, params: TextureParams) -> usize
-    ensures { (result ≡ Positions.data_at header params.0) × (result < 2 ^ 33) }
-{
-    let offset = params.offset() as usize;
-    if params.format() == TextureFormat::Compressed {
-        header.compressed1_block_off as usize + offset
-    } else {
-        header.tex_block_off as usize + offset
+    // Where a texture's data, or a block-compressed texture's first data, begins.
+    #[tactic(auto, unfolding(crate::specs::Positions::data_at))]
+    pub fn data1_pos(self, params: TextureParams) -> usize
+        ensures { (result ≡ Positions.data_at self params.0) × (result < 2 ^ 33) }
+    {
+        let offset = params.offset() as usize;
+        if params.format() == TextureFormat::Compressed {
+            self.compressed1_block_off as usize + offset
+        } else {
+            self.tex_block_off as usize + offset
+        }
+    }
+
+    // Where a block-compressed texture's second data begins.
+    #[tactic(auto, unfolding(crate::specs::Positions::second_at))]
+    pub fn data2_pos(self, params: TextureParams) -> usize
+        ensures { (result ≡ Positions.second_at self params.0) × (result < 2 ^ 33) }
+    {
+        let offset = params.offset() as usize;
+        self.compressed2_block_off as usize + offset / 2
+    }
+
+    // Where the list of the kind begins.
+    pub fn list_pos(self, kind: Kind) -> usize
+        ensures { (result ≡ Positions.list_pos kind self) × (result < 2 ^ 32) }
+    {
+        match kind {
+            Kind::Texture => self.texture_off as usize,
+            Kind::Palette => self.palette_off as usize,
+        }
     }
 }
 
-// Where a block-compressed texture's second data begins.
-#[tactic(auto, unfolding(crate::specs::Positions::second_at))]
-pub fn data2_pos(header: Header, params: TextureParams) -> usize
-    ensures { (result ≡ Positions.second_at header params.0) × (result < 2 ^ 33) }
-{
-    let offset = params.offset() as usize;
-    header.compressed2_block_off as usize + offset / 2
+impl Layout {
+    // The length of the list of the kind.
+    pub fn count_of(self, kind: Kind) -> usize
+        ensures { result ≡ Positions.count_of kind self }
+    {
+        match kind {
+            Kind::Texture => self.textures,
+            Kind::Palette => self.palettes,
+        }
+    }
 }
 
 // The word of a texture, by its entry.
@@ -75,24 +99,4 @@ pub fn off_at(palette: Entry) -> u32
 {
     let units: u16 = palette.number();
     8 * u32::from(units)
-}
-
-// Where the list of the kind begins.
-pub fn list_pos(kind: Kind, header: Header) -> usize
-    ensures { (result ≡ Positions.list_pos kind header) × (result < 2 ^ 32) }
-{
-    match kind {
-        Kind::Texture => header.texture_off as usize,
-        Kind::Palette => header.palette_off as usize,
-    }
-}
-
-// The length of the list of the kind.
-pub fn count_of(kind: Kind, layout: Layout) -> usize
-    ensures { result ≡ Positions.count_of kind layout }
-{
-    match kind {
-        Kind::Texture => layout.textures,
-        Kind::Palette => layout.palettes,
-    }
 }

@@ -17,7 +17,6 @@ ghost use Rattle.listing.specs.Listing as Listing;
 ghost use Rattle.listing.specs.Lists as Lists;
 
 use errors::{Kind, Refusal};
-use layout::count_of;
 use lines::{put_palette, put_texture};
 use nitro::tex::{palette_by, texture_by};
 use reading::tex::Tex;
@@ -68,7 +67,7 @@ fn put_list(writer: &mut Writer<'_>, tex: Tex, kind: Kind)
     requires { HasRoom (Lists.list_of kind (run read_tex tex.block.now) (count_of kind tex.layout)) writer.old }
     ensures { Adds (Lists.list_of kind (run read_tex tex.entry.block.now) (count_of kind tex.entry.layout)) writer.old writer.new }
 {
-    let count = count_of(kind, tex.layout);
+    let count = tex.layout.count_of(kind);
     put_heading(writer, kind, count);
     for n in 0..count {
         put_entry(writer, tex, kind, n);

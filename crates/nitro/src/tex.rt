@@ -13,7 +13,7 @@ ghost use Rattle.nitro.specs.ByLayout as ByLayout;
 
 use cursor::part_at;
 use errors::{Kind, Refusal};
-use layout::{Header, count_of, data1_pos, data2_pos, off_at, pal_block_len, params_at};
+use layout::{Header, off_at, params_at};
 use name::Name;
 use nds::texture_formats::Alpha;
 use nds::texture_params::TextureParams;
@@ -50,7 +50,7 @@ fn find(block: &[u8], kind: Kind, n: usize) -> Result<Tex<'_>, Refusal>
     ensures of_block { IfOk result (λ tex. tex.block ≡ block.entry) }
 {
     let tex = Tex::read(block)?;
-    if n < count_of(kind, tex.layout) {
+    if n < tex.layout.count_of(kind) {
         Ok(tex)
     } else {
         Err(Refusal::Number(kind))
@@ -156,7 +156,7 @@ pub fn texture_data1(block: &[u8], n: usize) -> &[u8]
     let Ok((header, params)) = find_word(block, n) else {
         return &[];
     };
-    part_at(block, data1_pos(header, params), params.byte_len())
+    part_at(block, header.data1_pos(params), params.byte_len())
 }
 
 // The second data of texture n. Only a block-compressed texture has any.
@@ -167,7 +167,7 @@ pub fn texture_data2(block: &[u8], n: usize) -> &[u8]
     let Ok((header, params)) = find_word(block, n) else {
         return &[];
     };
-    part_at(block, data2_pos(header, params), params.byte_len2())
+    part_at(block, header.data2_pos(params), params.byte_len2())
 }
 
 // The palette block, which all palettes share.
@@ -179,5 +179,5 @@ pub fn pal_block(block: &[u8]) -> &[u8]
         return &[];
     };
     let header = tex.layout.header;
-    part_at(block, header.pal_block_off as usize, pal_block_len(header))
+    part_at(block, header.pal_block_off as usize, header.pal_block_len())
 }

@@ -11,7 +11,7 @@ ghost use Rattle.places.specs.ByLayout as ByLayout;
 
 use cursor::part_at;
 use errors::{Kind, Refusal};
-use layout::{Header, data1_pos, data2_pos, off_at, pal_block_len, params_at};
+use layout::{Header, off_at, params_at};
 use nds::texture_params::TextureParams;
 use reading::tex::Tex;
 
@@ -48,7 +48,7 @@ fn pal_place_at(header: Header) -> Place
 {
     Place {
         pos: header.pal_block_off as usize,
-        len: pal_block_len(header),
+        len: header.pal_block_len(),
     }
 }
 
@@ -82,11 +82,11 @@ pub fn places_of(header: Header, params: TextureParams, palette: Option<u32>) ->
     Places {
         params,
         data1: Place {
-            pos: data1_pos(header, params),
+            pos: header.data1_pos(params),
             len: params.byte_len(),
         },
         data2: Place {
-            pos: data2_pos(header, params),
+            pos: header.data2_pos(params),
             len: params.byte_len2(),
         },
         palette,

@@ -17,7 +17,7 @@ pub mod tex;
 
 use errors::{Kind, Refusal};
 use info_block::name_list::NameList;
-use layout::{Header, Layout, data1_pos, data2_pos, pal_block_len, params_at};
+use layout::{Header, Layout, params_at};
 use nds::texture_formats::TextureFormat;
 use nds::texture_params::TextureParams;
 use scripts::take;
@@ -67,7 +67,7 @@ fn read_header(block: &[u8]) -> Result<Header, Refusal>
 fn take_pal_block(block: &[u8], header: Header) -> Result<(), Refusal>
     ensures { result_outcome result ≡ passing (Tex.read_pal_block header) block.now }
 {
-    take(block, header.pal_block_off as usize, pal_block_len(header))
+    take(block, header.pal_block_off as usize, header.pal_block_len())
 }
 
 // Whether the second data is there, for a texture that has any.
@@ -76,7 +76,7 @@ fn take_data2(block: &[u8], header: Header, params: TextureParams) -> Result<(),
     ensures { result_outcome result ≡ passing (Tex.read_second header params.0) block.now }
 {
     if params.format() == TextureFormat::Compressed {
-        take(block, data2_pos(header, params), params.byte_len2())
+        take(block, header.data2_pos(params), params.byte_len2())
     } else {
         Ok(())
     }
@@ -87,7 +87,7 @@ fn take_data2(block: &[u8], header: Header, params: TextureParams) -> Result<(),
 fn take_data(block: &[u8], header: Header, params: TextureParams) -> Result<(), Refusal>
     ensures { result_outcome result ≡ passing (Tex.read_data header params.0) block.now }
 {
-    take(block, data1_pos(header, params), params.byte_len())?;
+    take(block, header.data1_pos(params), params.byte_len())?;
     take_data2(block, header, params)
 }
 

@@ -5,7 +5,7 @@ ghost use Rattle.reading.specs.Layouts.{LaidOut};
 use crate::lay_out;
 use errors::{Kind, Refusal};
 use info_block::name_list::NameList;
-use layout::{Layout, count_of, list_pos};
+use layout::Layout;
 
 // A block, with what its reading found.
 #[derive(Clone, Copy)]
@@ -45,8 +45,8 @@ impl<'a> Tex<'a> {
         NameList::at(
             self.block,
             kind,
-            list_pos(kind, layout.header),
-            count_of(kind, layout),
+            layout.header.list_pos(kind),
+            layout.count_of(kind),
         )
     }
 }

@@ -14,7 +14,7 @@ ghost use Rattle.rows.specs.Rows as Rows;
 
 use errors::{Kind, Refusal};
 use info_block::name_list::{Entry, NameList};
-use layout::{Header, list_pos, off_at, params_at};
+use layout::{Header, off_at, params_at};
 use places::{Place, places_of};
 use reading::tex::Tex;
 
@@ -39,7 +39,7 @@ fn told_pos(place: Place) -> usize
 fn name_pos(header: Header, entry: Entry) -> usize
     ensures { result ≡ ByLayout.name_pos entry.entry.list.kind header entry.entry.list.count entry.entry.n }
 {
-    list_pos(entry.list.kind, header) + entry.name_pos()
+    header.list_pos(entry.list.kind) + entry.name_pos()
 }
 
 // The row of a texture: where its name begins, its word, and the places of its data.
