@@ -10,7 +10,7 @@ use Rattle.scripts.specs.Script.{run}
 use Rattle.reading.specs.Tex.{read_tex}
 use Rattle.nitro.specs.Calls.{data1_of, data2_of, pal_block_of}
 use Rattle.places.specs.Sources.{places_of, pal_place_of, part_at}
-use Rattle.places.specs.declared.Place.{Place}
+use Rattle.layout.specs.declared.Place.{Place}
 use Rattle.places.specs.declared.Places.{Places}
 use Rattle.places.proofs.Sources.{passed_on, located_sources, sources_data, placed_part}
 use Rattle.rows.specs.Rows.{place_of, Inside}

@@ -4,15 +4,15 @@ ghost use Rattle.places.specs.Sources as Sources;
 ghost use Rattle.rows.specs.Rows as Rows;
 ghost use Rattle.told.specs.Told as Told;
 
-use cursor::part_at;
-use places::{Place, locate, pal_place};
+use layout::Place;
+use places::{locate, pal_place};
 use told::{place_of, tell_part};
 
 // A place as it is told: that of the bytes that it has in the block.
 fn place_in(block: &[u8], place: Place) -> Place
     ensures { result ≡ Rows.place_of place.pos (Sources.part_at block.now place) }
 {
-    place_of(place.pos, part_at(block, place.pos, place.len))
+    place_of(place.pos, place.part(block))
 }
 
 // Where in the block the data of texture n are, or a block-compressed texture's first data, and how long it is. An empty part begins at 0.

@@ -25,7 +25,7 @@ use Rattle.nitro.specs.Calls as Calls
 use Rattle.nitro.specs.declared.tex.Counts.{Counts}
 use Rattle.places.specs.Sources as Sources
 use Rattle.rows.specs.Rows.{rows_in, rows_of}
-use Rattle.places.specs.declared.Place.{Place}
+use Rattle.layout.specs.declared.Place.{Place}
 use Rattle.places.specs.declared.Places.{Places}
 use Rattle.scripts.proofs.Runs.{bytes_out}
 use Rattle.reading.proofs.Readings.{header_follows, read_header_follows}

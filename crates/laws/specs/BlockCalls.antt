@@ -21,7 +21,7 @@ use Rattle.nitro.specs.declared.tex.TextureRecord.{TextureRecord}
 use Rattle.nitro.specs.declared.tex.PaletteRecord.{PaletteRecord}
 use Rattle.places.specs.Sources.{places_of, pal_place_of}
 use Rattle.rows.specs.Rows.{rows_of}
-use Rattle.places.specs.declared.Place.{Place}
+use Rattle.layout.specs.declared.Place.{Place}
 use Rattle.places.specs.declared.Places.{Places}
 use Rattle.decode.specs.Pictures.{picture_of}
 use Rattle.pam.specs.Pam.{pam_of}

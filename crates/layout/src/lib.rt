@@ -1,4 +1,4 @@
-// What a reading keeps of a block: its header, and how long its two lists are; and where, by these, data and the entries of lists stand.
+// What a reading keeps of a block: its header, and how long its two lists are; and where, by these, data and lists stand.
 
 #![tactic(auto)]
 
@@ -7,6 +7,7 @@ ghost use Rattle.info_block.specs.InfoBlock.{entry_number};
 ghost use Rattle.info_block.specs.Lists.{listed};
 ghost use Rattle.layout.specs.Positions as Positions;
 
+use cursor::part_at;
 use errors::Kind;
 use info_block::name_list::Entry;
 use nds::texture_formats::TextureFormat;
@@ -32,35 +33,62 @@ pub struct Layout {
     pub palettes: usize,
 }
 
-impl Header {
-    // The palette block's length in bytes.
-    pub fn pal_block_len(self) -> usize
-        ensures value { result ≡ 8 * self.pal_block_len_shr_3 }
-        ensures upper_bound { result < 2 ^ 19 }
-    {
-        8 * (self.pal_block_len_shr_3 as usize)
-    }
+// A part of a block: len bytes at pos.
+#[derive(Clone, Copy)]
+pub struct Place {
+    pub pos: usize,
+    pub len: usize,
+}
 
-    // Where a texture's data, or a block-compressed texture's first data, begins.
-    #[tactic(auto, unfolding(crate::specs::Positions::data_at))]
-    pub fn data1_pos(self, params: TextureParams) -> usize
-        ensures { (result ≡ Positions.data_at self params.0) × (result < 2 ^ 33) }
+impl Place {
+    // The part of the block at the place, or the empty part where the block does not have it.
+    pub fn part(self, block: &[u8]) -> &[u8]
+        ensures { result.now ≡ Positions.part_at block.now self }
     {
-        let offset = params.offset() as usize;
-        if params.format() == TextureFormat::Compressed {
-            self.compressed1_block_off as usize + offset
-        } else {
-            self.tex_block_off as usize + offset
+        part_at(block, self.pos, self.len)
+    }
+}
+
+impl Header {
+    // The palette block.
+    pub fn pal_block(self) -> Place
+        ensures value { result ≡ Positions.pal_place_at self }
+        ensures upper_bound { (result.pos < 2 ^ 32) × (result.len < 2 ^ 19) }
+    {
+        Place {
+            pos: self.pal_block_off as usize,
+            len: 8 * (self.pal_block_len_shr_3 as usize),
         }
     }
 
-    // Where a block-compressed texture's second data begins.
-    #[tactic(auto, unfolding(crate::specs::Positions::second_at))]
-    pub fn data2_pos(self, params: TextureParams) -> usize
-        ensures { (result ≡ Positions.second_at self params.0) × (result < 2 ^ 33) }
+    // A texture's data, or a block-compressed texture's first data.
+    #[tactic(auto, using(nds::proofs::Sizes::data_length_lt), unfolding(crate::specs::Positions::data_at))]
+    pub fn data1(self, params: TextureParams) -> Place
+        ensures value { result ≡ Positions.data1_at self params.0 }
+        ensures upper_bound { (result.pos < 2 ^ 33) × (result.len < 2 ^ 32) }
+    {
+        let start = if params.format() == TextureFormat::Compressed {
+            self.compressed1_block_off
+        } else {
+            self.tex_block_off
+        };
+        Place {
+            pos: start as usize + params.offset() as usize,
+            len: params.byte_len(),
+        }
+    }
+
+    // A block-compressed texture's second data. Other textures have none.
+    #[tactic(auto, using(nds::proofs::Sizes::second_length_lt), unfolding(crate::specs::Positions::second_at))]
+    pub fn data2(self, params: TextureParams) -> Place
+        ensures value { result ≡ Positions.data2_at self params.0 }
+        ensures upper_bound { (result.pos < 2 ^ 33) × (result.len < 2 ^ 32) }
     {
         let offset = params.offset() as usize;
-        self.compressed2_block_off as usize + offset / 2
+        Place {
+            pos: self.compressed2_block_off as usize + offset / 2,
+            len: params.byte_len2(),
+        }
     }
 
     // Where the list of the kind begins.

@@ -11,7 +11,6 @@ ghost use Rattle.errors.specs.Refusal.{result_outcome, outcome_as};
 ghost use Rattle.nitro.specs.Calls as Calls;
 ghost use Rattle.nitro.specs.ByLayout as ByLayout;
 
-use cursor::part_at;
 use errors::{Kind, Refusal};
 use layout::{Header, off_at, params_at};
 use name::Name;
@@ -156,7 +155,7 @@ pub fn texture_data1(block: &[u8], n: usize) -> &[u8]
     let Ok((header, params)) = find_word(block, n) else {
         return &[];
     };
-    part_at(block, header.data1_pos(params), params.byte_len())
+    header.data1(params).part(block)
 }
 
 // The second data of texture n. Only a block-compressed texture has any.
@@ -167,7 +166,7 @@ pub fn texture_data2(block: &[u8], n: usize) -> &[u8]
     let Ok((header, params)) = find_word(block, n) else {
         return &[];
     };
-    part_at(block, header.data2_pos(params), params.byte_len2())
+    header.data2(params).part(block)
 }
 
 // The palette block, which all palettes share.
@@ -178,6 +177,5 @@ pub fn pal_block(block: &[u8]) -> &[u8]
     let Ok(tex) = Tex::read(block) else {
         return &[];
     };
-    let header = tex.layout.header;
-    part_at(block, header.pal_block_off as usize, header.pal_block_len())
+    tex.layout.header.pal_block().part(block)
 }

@@ -22,7 +22,7 @@ use Rattle.reading.specs.Layouts.{layout_of, layout_answer, LaidOut}
 use Rattle.places.specs.ByLayout.{chosen_by, places_by}
 use Rattle.layout.specs.declared.Header.{Header}
 use Rattle.layout.specs.declared.Layout.{Layout}
-use Rattle.places.specs.declared.Place.{Place}
+use Rattle.layout.specs.declared.Place.{Place}
 use Rattle.places.specs.declared.Places.{Places}
 use Rattle.scripts.proofs.Runs.{whole_outcome, ended, follows_self, refused}
 use Rattle.reading.proofs.Readings.{finished, textures_listed, palettes_listed, pal_block_whole}

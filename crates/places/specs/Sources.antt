@@ -6,10 +6,11 @@ use Rattle.nds.specs.Formats.{data_length, second_length}
 use Rattle.errors.specs.declared.Kind.TheVariants as kind
 use Rattle.scripts.specs.Script.{Answer, outcome_of}
 use Rattle.reading.specs.Tex.{Data, Palette, Contents, header_of}
-use Rattle.layout.specs.Positions.{data_at, second_at}
+pub use Rattle.layout.specs.Positions.{pal_place_at, part_at}
+use Rattle.layout.specs.Positions.{data1_at, data2_at}
 use Rattle.layout.specs.declared.Header.{Header}
 use Rattle.nitro.specs.Calls.{entry}
-use Rattle.places.specs.declared.Place.{Place}
+use Rattle.layout.specs.declared.Place.{Place}
 use Rattle.places.specs.declared.Places.{Places}
 
 -- What a picture is made from: the word and data of a texture, the offset of the palette chosen for it, if one was, and the palette block.
@@ -32,10 +33,7 @@ sources_of n choice a = outcome_of a λ c. do
   palette ← chosen_of choice c.palettes
   result (record { word = texture.word; parts = texture.parts; palette = palette; pal_block = c.pal_block })
 
--- Where the palette block is: "palette block (8 times its unit count)".
-abbrev pub pal_place_at : Header → Place
-pal_place_at h = record { pos = h.pal_block_off; len = 8 * h.pal_block_len_shr_3 }
-
+-- Where the palette block is.
 unfoldable pub pal_place_of : (block : List ℕ) → Answer Contents → Outcome Place
 pal_place_of block a = outcome_of a λ c. result (pal_place_at (header_of (take 60 block)))
 
@@ -44,8 +42,8 @@ pal_place_of block a = outcome_of a λ c. result (pal_place_at (header_of (take 
 abbrev pub places_at : Header → (word : ℕ) → Option ℕ → Places
 places_at h word palette = record {
   params = record { 0 = word };
-  data1 = record { pos = data_at h word; len = data_length word };
-  data2 = record { pos = second_at h word; len = second_length word };
+  data1 = data1_at h word;
+  data2 = data2_at h word;
   palette = palette;
   pal_block = pal_place_at h;
 }
@@ -55,10 +53,7 @@ places_of n choice block a = do
   sources ← sources_of n choice a
   result (places_at (header_of (take 60 block)) sources.word sources.palette)
 
--- The part of the block at a place, and all parts at a picture's places.
-abbrev pub part_at : (block : List ℕ) → Place → List ℕ
-part_at block place = taken_part place.pos place.len block
-
+-- All parts at a picture's places.
 abbrev pub sources_at : (block : List ℕ) → Places → Sources
 sources_at block places = record {
   word = places.params.0;

@@ -9,27 +9,11 @@ ghost use Rattle.reading.specs.Tex.{read_tex};
 ghost use Rattle.places.specs.Sources as Sources;
 ghost use Rattle.places.specs.ByLayout as ByLayout;
 
-use cursor::part_at;
 use errors::{Kind, Refusal};
+pub use layout::Place;
 use layout::{Header, off_at, params_at};
 use nds::texture_params::TextureParams;
 use reading::tex::Tex;
-
-// A part of a block: len bytes at pos.
-#[derive(Clone, Copy)]
-pub struct Place {
-    pub pos: usize,
-    pub len: usize,
-}
-
-impl Place {
-    // The part of the block at the place, or the empty part where the block does not have it.
-    pub fn part(self, block: &[u8]) -> &[u8]
-        ensures { result.now ≡ Sources.part_at block.now self }
-    {
-        part_at(block, self.pos, self.len)
-    }
-}
 
 // What a picture is made from, and where in the block it is.
 #[derive(Clone, Copy)]
@@ -42,23 +26,13 @@ pub struct Places {
     pub pal_block: Place,
 }
 
-// The palette block's place.
-fn pal_place_at(header: Header) -> Place
-    ensures { result ≡ Sources.pal_place_at header }
-{
-    Place {
-        pos: header.pal_block_off as usize,
-        len: header.pal_block_len(),
-    }
-}
-
 // Where the palette block is.
 #[tactic(auto, using(crate::proofs::Sources::finds))]
 pub fn pal_place(block: &[u8]) -> Result<Place, Refusal>
     ensures { result_outcome result ≡ Sources.pal_place_of block.now (run read_tex block.now) }
 {
     let tex = Tex::read(block)?;
-    Ok(pal_place_at(tex.layout.header))
+    Ok(tex.layout.header.pal_block())
 }
 
 // The offset of the palette that is chosen, if one is.
@@ -81,16 +55,10 @@ pub fn places_of(header: Header, params: TextureParams, palette: Option<u32>) ->
 {
     Places {
         params,
-        data1: Place {
-            pos: header.data1_pos(params),
-            len: params.byte_len(),
-        },
-        data2: Place {
-            pos: header.data2_pos(params),
-            len: params.byte_len2(),
-        },
+        data1: header.data1(params),
+        data2: header.data2(params),
         palette,
-        pal_block: pal_place_at(header),
+        pal_block: header.pal_block(),
     }
 }
 

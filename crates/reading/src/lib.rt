@@ -67,7 +67,8 @@ fn read_header(block: &[u8]) -> Result<Header, Refusal>
 fn take_pal_block(block: &[u8], header: Header) -> Result<(), Refusal>
     ensures { result_outcome result ≡ passing (Tex.read_pal_block header) block.now }
 {
-    take(block, header.pal_block_off as usize, header.pal_block_len())
+    let place = header.pal_block();
+    take(block, place.pos, place.len)
 }
 
 // Whether the second data is there, for a texture that has any.
@@ -76,7 +77,8 @@ fn take_data2(block: &[u8], header: Header, params: TextureParams) -> Result<(),
     ensures { result_outcome result ≡ passing (Tex.read_second header params.0) block.now }
 {
     if params.format() == TextureFormat::Compressed {
-        take(block, header.data2_pos(params), params.byte_len2())
+        let place = header.data2(params);
+        take(block, place.pos, place.len)
     } else {
         Ok(())
     }
@@ -87,7 +89,8 @@ fn take_data2(block: &[u8], header: Header, params: TextureParams) -> Result<(),
 fn take_data(block: &[u8], header: Header, params: TextureParams) -> Result<(), Refusal>
     ensures { result_outcome result ≡ passing (Tex.read_data header params.0) block.now }
 {
-    take(block, header.data1_pos(params), params.byte_len())?;
+    let place = header.data1(params);
+    take(block, place.pos, place.len)?;
     take_data2(block, header, params)
 }
 

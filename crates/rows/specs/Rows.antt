@@ -10,7 +10,7 @@ use Rattle.info_block.specs.InfoBlock.{name_at}
 use Rattle.reading.specs.Tex.{Texture, Palette, Contents, header_of}
 use Rattle.layout.specs.Positions.{data_at, second_at}
 use Rattle.layout.specs.declared.Header.{Header}
-use Rattle.places.specs.declared.Place.{Place}
+use Rattle.layout.specs.declared.Place.{Place}
 
 -- A part by where it begins in the block, and its length. 01, "Modules" 5: "the part of the lent block it occupies". A part without bytes begins
 -- at 0, so that every part that is told lies within its block.

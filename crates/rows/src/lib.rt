@@ -14,8 +14,8 @@ ghost use Rattle.rows.specs.Rows as Rows;
 
 use errors::{Kind, Refusal};
 use info_block::name_list::{Entry, NameList};
-use layout::{Header, off_at, params_at};
-use places::{Place, places_of};
+use layout::{Header, Place, off_at, params_at};
+use places::places_of;
 use reading::tex::Tex;
 
 // How many numbers the row of an entry has.

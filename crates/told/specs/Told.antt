@@ -15,7 +15,7 @@ use Rattle.nitro.specs.Calls.{reading_of, texture_of, palette_of, data1_of, data
 use Rattle.places.specs.Sources.{places_of, pal_place_of}
 use Rattle.nitro.specs.declared.tex.TextureRecord.{TextureRecord}
 use Rattle.nitro.specs.declared.tex.PaletteRecord.{PaletteRecord}
-use Rattle.places.specs.declared.Place.{Place}
+use Rattle.layout.specs.declared.Place.{Place}
 use Rattle.decode.specs.Pictures.{sources, decoded, picture_of}
 
 -- A number that is told as it is.

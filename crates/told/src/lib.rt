@@ -8,10 +8,10 @@ ghost use Rattle.rows.specs.Rows as Rows;
 ghost use Rattle.told.specs.Told as Told;
 
 use errors::Refusal;
+use layout::Place;
 use nds::texture_formats::Alpha;
 use nds::wrap::Wrap;
 use nitro::tex::Counts;
-use places::Place;
 
 pub fn wrap_number(wrap: Wrap) -> u32
     ensures { result ≡ Told.wrap_number wrap }
