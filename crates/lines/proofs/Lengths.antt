@@ -1,6 +1,5 @@
 -- How long the lines are at most. Assumes nothing.
 use Prim.Native.Nat.{ℕ, ◌^◌, ◌≤◌, ◌<◌}
-use mathlib.Core.Path.{refl}
 use native.Mathlib.Omega.{arith}
 use lib.ListN.{length, length-append}
 use lib.Dec.{lit≤}
@@ -37,7 +36,7 @@ unfolding texture_line line ascii
 texture_length n t h name =
     let w = t.params.0 in
     let number : length (decimal n) ≤ 3 = decimal_length n 2 (omega arith) in
-    let text : length (safe_text t.name.0) ≤ 16 = safe_within t.name.0 15 name in
+    let text : length (safe_text t.name.0) ≤ 16 = omega (arith, safe_within t.name.0) in
     let digit : length (decimal (format w)) ≤ 1 = decimal_length (format w) 0 (omega arith) in
     let columns : length (decimal (width w)) ≤ 4 = decimal_length (width w) 3 (omega (arith, width_le w)) in
     let rows : length (decimal (height w)) ≤ 4 = decimal_length (height w) 3 (omega (arith, height_le w)) in
@@ -47,6 +46,6 @@ pub palette_length : (n : ℕ) (p : PaletteRecord) → n < 256 → length p.name
 unfolding palette_line line ascii
 palette_length n p h name off =
     let number : length (decimal n) ≤ 3 = decimal_length n 2 (omega arith) in
-    let text : length (safe_text p.name.0) ≤ 16 = safe_within p.name.0 15 name in
+    let text : length (safe_text p.name.0) ≤ 16 = omega (arith, safe_within p.name.0) in
     let offset : length (decimal p.off) ≤ 6 = decimal_length p.off 5 (omega arith) in
     simp length-append (omega arith)

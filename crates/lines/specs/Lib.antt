@@ -1,2 +1,1 @@
 pub mod Lines
-pub mod Rest

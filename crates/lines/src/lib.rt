@@ -37,13 +37,15 @@ fn alpha_word(alpha: Alpha) -> &'static [u8]
     }
 }
 
-// A name in letters, digits and underscores, and the space or line end behind it. The text has room, so it is never refused.
+// A name in letters, digits and underscores, and the space or line end behind it. 16 bytes are room for each such text, so it is never refused.
+#[tactic(auto, using(text::proofs::Puts::whole, name::proofs::Texts::safe_within))]
 fn put_name(writer: &mut Writer<'_>, name: Name, end: &[u8])
     requires { HasRoom (safe_text name.0 ++ end.now) writer.old }
     ensures { Adds (safe_text name.0 ++ end.now) writer.old writer.new }
 {
-    writer.at += name.print_safe(&mut writer.out[writer.at..]).unwrap();
-    writer.put(end);
+    let mut text = [0; 16];
+    let len = name.print_safe(&mut text).unwrap();
+    writer.put_field(&text[..len], end);
 }
 
 // The line of texture n.

@@ -1,5 +1,5 @@
 -- The laws of names' texts: what is left of a name without its trailing zeros, and texts made byte after byte. Assumes nothing.
-use Prim.Native.Nat.{ℕ, zero, suc, ◌+◌, ◌-◌, ◌*◌, ◌/◌, ◌%◌, ◌≤◌, ◌<◌, max}
+use Prim.Native.Nat.{ℕ, zero, suc, ◌+◌, ◌*◌, ◌/◌, ◌%◌, ◌≤◌, ◌<◌, max}
 use mathlib.Core.Path.{◌≡◌, refl, ap, ◌∙◌}
 use mathlib.Core.Bool.{Bool, true, false, cond}
 use mathlib.Core.List.{List, [], ◌∷◌, ◌++◌, map, reverse, append-nil}
@@ -47,7 +47,7 @@ zeros_reversed (y ∷ ys) = rw (reverse_cons y ys) (go (eqb y 0) refl (zeros_rev
 pub zeros_trimmed : (xs : List ℕ) → length (trimmed xs) + prefix_len (λ b. eqb b 0) (reverse xs) ≡ length xs
 zeros_trimmed xs = rw (reverse-reverse, length-reverse) at (zeros_reversed (reverse xs))
 
-take_trimmed : (xs : List ℕ) → take (length (trimmed xs)) xs ≡ trimmed xs
+pub take_trimmed : (xs : List ℕ) → take (length (trimmed xs)) xs ≡ trimmed xs
 unfolding trimmed
 take_trimmed [] = refl
 take_trimmed (x ∷ xs) = go (trimmed xs) (take_trimmed xs)
@@ -59,12 +59,6 @@ take_trimmed (x ∷ xs) = go (trimmed xs) (take_trimmed xs)
     go : (t : List ℕ) → take (length t) xs ≡ t → take (length (before x t)) (x ∷ xs) ≡ before x t
     go [] q = none (eqb x 0)
     go (b ∷ t) q = ap (λ l. x ∷ l) q
-
--- so the bytes that stay are as many as are left of all but those zeros
-pub trimmed_taken : (name : List ℕ) (zeros : ℕ) → zeros ≡ prefix_len (λ b. eqb b 0) (reverse name) → take (length name - zeros) name ≡ trimmed name
-trimmed_taken name zeros e =
-    let kept : length name - zeros ≡ length (trimmed name) = omega (arith, zeros_trimmed name) in
-    rw kept (take_trimmed name)
 
 pub trimmed_within : (name : List ℕ) → length (trimmed name) ≤ length name
 trimmed_within name = omega (arith, zeros_trimmed name)
@@ -93,13 +87,13 @@ safe_taken name h = go (trimmed name) refl
         let most : max (suc (length t)) 1 ≡ length (trimmed name) = rw e (omega arith) in
         rw (most, take-map) (ap (map safe_byte) (take_trimmed name ∙ e))
 
-pub safe_within : (name : List ℕ) (most : ℕ) → length name ≤ suc most → length (safe_text name) ≤ suc most
+pub safe_within : (name : List ℕ) → length (safe_text name) ≤ max (length name) 1
 unfolding safe_text
-safe_within name most h = go (map safe_byte (trimmed name)) (rw length-map (omega (arith, trimmed_within name)))
+safe_within name = go (map safe_byte (trimmed name)) (rw length-map (omega (arith, trimmed_within name)))
   where
-    go : (t : List ℕ) → length t ≤ suc most → length (or_underscore t) ≤ suc most
+    go : (t : List ℕ) → length t ≤ length name → length (or_underscore t) ≤ max (length name) 1
     go [] q = omega arith
-    go (b ∷ t) q = q
+    go (b ∷ t) q = omega arith
 
 pub display_short : (b : ℕ) → length (display_byte b) ≤ 2
 unfolding display_byte
@@ -129,4 +123,4 @@ pub text_first : (text entry : List ℕ) → length text ≤ length entry → ta
 text_first text entry h = rw zero-add (text_there text entry h)
 
 -- for a loop that puts them
-pub ruleset each_shown = (shown_more, shown_few, shown_all, display_short, sets_both, length-append, length-sets, length-take, text_first)
+pub ruleset each_shown = (take_trimmed, shown_more, shown_few, shown_all, display_short, sets_both, length-append, length-sets, length-take, text_first)

@@ -2,7 +2,8 @@
 
 #![tactic(auto)]
 
-ghost use Rattle.std.specs.Prelude.{◌≡◌, ◌≤◌, length, map, encode_utf8};
+ghost use Rattle.std.specs.Prelude.{◌≡◌, ◌≤◌, length, map, reverse, eqb, encode_utf8};
+ghost use Rattle.std.specs.List.{prefix_len};
 ghost use Rattle.util.specs.Outcome.{result as answered};
 ghost use Rattle.output.specs.Output.{Writes};
 ghost use Rattle.errors.specs.Refusal.{result_outcome};
@@ -30,13 +31,21 @@ fn display_char(b: u8) -> char
 }
 
 impl Name {
-    // The bytes before the trailing zeros.
-    fn trimmed(&self) -> &[u8]
-        ensures value { result.now ≡ Text.trimmed self.now.0 }
-        ensures upper_bound { length result.now ≤ 16 }
+    // How many zeros are at the end.
+    fn trailing_zeros(self) -> usize
+        ensures value { result ≡ prefix_len (λ b. eqb b 0) (reverse self.0) }
+        ensures upper_bound { result ≤ 16 }
     {
-        let zeros = self.0.iter().rev().take_while(|&&b| b == 0).count();
-        &self.0[..16 - zeros]
+        self.0.iter().rev().take_while(|&&b| b == 0).count()
+    }
+
+    // The length without them.
+    #[tactic(auto, using(crate::proofs::Texts::zeros_trimmed))]
+    fn trimmed_len(self) -> usize
+        ensures value { result ≡ length (Text.trimmed self.0) }
+        ensures upper_bound { result ≤ 16 }
+    {
+        16 - self.trailing_zeros()
     }
 
     // Each byte as a letter or digit, or an underscore.
@@ -52,7 +61,7 @@ impl Name {
         ensures { Writes (answered (Text.safe_text self.0)) out.old (result_outcome result) out.new }
     {
         let text = self.safe_bytes();
-        let len = self.trimmed().len().max(1);
+        let len = self.trimmed_len().max(1);
         write(&text[..len], out)
     }
 
@@ -66,7 +75,7 @@ impl Name {
             out: &mut text,
             at: 0,
         };
-        for b in self.trimmed() {
+        for b in &self.0[..self.trimmed_len()] {
             let mut character = [0; 4];
             writer.put(display_char(*b).encode_utf8(&mut character).as_bytes());
         }

@@ -63,7 +63,7 @@ part_wrote text entry at r w =
     record { outcome = told; output = rw (wrote.holds, none, append-nil, drop-drop, sets-eq text entry at r.fits, append_assoc) }
 
 -- for functions that write a text at the start of an output
-pub ruleset whole = (outcome_there, output_there, text_there, outcome_short, output_short, length-sets, length-take)
+pub ruleset whole = (outcome_there, output_there, text_there, outcome_short, output_short, refusal_not, length-sets, length-take)
 
 -- so a call that may refuse does not, and the text is there as if put
 module _ {text entry : List ℕ} {at : ℕ} (answer : Result ℕ Refusal) {part : List ℕ} (r : Room text entry at)
