@@ -3,7 +3,7 @@ ghost use Rattle.std.specs.Prelude.{◌≡◌};
 ghost use Rattle.nds.specs.Formats as Formats;
 
 // A texture's format, in GBATEK's terms, and its number. The comments say what a texel stores.
-#[derive(Clone, Copy, PartialEq, Eq)]
+#[derive(Clone, Copy, Debug, PartialEq, Eq)]
 pub enum TextureFormat {
     // There is no texture.
     NoTexture = 0,
@@ -23,17 +23,17 @@ pub enum TextureFormat {
     Direct = 7,
 }
 
-#[derive(Clone, Copy)]
+#[derive(Clone, Copy, Debug, PartialEq, Eq)]
 pub enum Alpha {
     // Every texel is solid.
-    Opaque,
+    Opaque = 0,
     // A texel is solid or clear.
-    Transparent,
+    Transparent = 1,
     // A texel has any alpha.
-    Translucent,
+    Translucent = 2,
 }
 
-#[derive(Clone, Copy)]
+#[derive(Clone, Copy, Debug, PartialEq, Eq)]
 pub enum AlphaDesc {
     // Whatever the word says.
     Always(Alpha),
@@ -41,7 +41,7 @@ pub enum AlphaDesc {
     TransparentDependingOnParams,
 }
 
-#[derive(Clone, Copy)]
+#[derive(Clone, Copy, Debug, PartialEq, Eq)]
 pub struct FormatDesc {
     pub requires_palette: bool,
     // Bits per texel.

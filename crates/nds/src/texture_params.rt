@@ -8,7 +8,7 @@ use crate::texture_formats::{Alpha, AlphaDesc, TextureFormat};
 use crate::wrap::{Wrap, wrap_axis};
 use util::bits::bits;
 
-#[derive(Clone, Copy)]
+#[derive(Clone, Copy, Debug, PartialEq, Eq)]
 pub struct TextureParams(pub u32);
 
 // Whether the bit of number k is set.

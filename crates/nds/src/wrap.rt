@@ -2,11 +2,11 @@
 ghost use Rattle.std.specs.Prelude.{◌≡◌};
 ghost use Rattle.nds.specs.Wrap.{wrap_of};
 
-#[derive(Clone, Copy)]
+#[derive(Clone, Copy, Debug, PartialEq, Eq)]
 pub enum Wrap {
-    Clamp,
-    Repeat,
-    Mirror,
+    Clamp = 0,
+    Repeat = 1,
+    Mirror = 2,
 }
 
 // The wrap word of an axis, by its repeat bit and its mirror bit.
