@@ -1,5 +1,5 @@
 -- Refusals, by the rows of 01's table "When a call is declined": "Number" and "Returned". Assumes nothing.
-use Rattle.std.specs.Prelude.{ℕ, Result, Ok, Err}
+use Rattle.std.specs.Prelude.{ℕ, Option, Some, None, Result, Ok, Err}
 use Rattle.util.specs.Outcome.{Outcome, result, refusal}
 use Rattle.errors.specs.declared.Kind.{Kind}
 use Rattle.errors.specs.declared.Kind.TheVariants.{Texture, Palette}
@@ -39,6 +39,19 @@ refusal_number NoTexels = 10
 refusal_number Output = 11
 refusal_number ShortData = 12
 refusal_number LongInput = 13
+
+-- The want of a short take; no other row has one.
+abbrev pub refusal_needed : Refusal → Option ℕ
+refusal_needed (Short needed) = Some needed
+refusal_needed Stamp = None
+refusal_needed (Dummy kind) = None
+refusal_needed (DatumSize kind) = None
+refusal_needed (Number kind) = None
+refusal_needed NoPalette = None
+refusal_needed NoTexels = None
+refusal_needed Output = None
+refusal_needed ShortData = None
+refusal_needed LongInput = None
 
 -- And its value: "take is short" returns the want, and every other row 0.
 abbrev pub refusal_returned : Refusal → ℕ

@@ -3,7 +3,7 @@
 #![tactic(auto)]
 
 ghost use Rattle.std.specs.Prelude.{◌≡◌};
-ghost use Rattle.errors.specs.Refusal.{refusal_number, refusal_returned};
+ghost use Rattle.errors.specs.Refusal.{refusal_needed, refusal_number, refusal_returned};
 
 // Which of a block's two name lists.
 #[derive(Clone, Copy, Debug, PartialEq, Eq)]
@@ -44,18 +44,12 @@ impl Refusal {
         match self {
             Refusal::Short(_) => 1,
             Refusal::Stamp => 2,
-            Refusal::Dummy(kind) => match kind {
-                Kind::Texture => 3,
-                Kind::Palette => 5,
-            },
-            Refusal::DatumSize(kind) => match kind {
-                Kind::Texture => 4,
-                Kind::Palette => 6,
-            },
-            Refusal::Number(kind) => match kind {
-                Kind::Texture => 7,
-                Kind::Palette => 8,
-            },
+            Refusal::Dummy(Kind::Texture) => 3,
+            Refusal::DatumSize(Kind::Texture) => 4,
+            Refusal::Dummy(Kind::Palette) => 5,
+            Refusal::DatumSize(Kind::Palette) => 6,
+            Refusal::Number(Kind::Texture) => 7,
+            Refusal::Number(Kind::Palette) => 8,
             Refusal::NoPalette => 9,
             Refusal::NoTexels => 10,
             Refusal::Output => 11,
@@ -64,13 +58,21 @@ impl Refusal {
         }
     }
 
+    // The needed length of a short block.
+    pub fn needed(self) -> Option<usize>
+        ensures { result ≡ refusal_needed self }
+    {
+        if let Refusal::Short(needed) = self {
+            Some(needed)
+        } else {
+            None
+        }
+    }
+
     // What is returned beside the number: the needed length of a short block, and else 0.
     pub fn returned(self) -> usize
         ensures { result ≡ refusal_returned self }
     {
-        match self {
-            Refusal::Short(needed) => needed,
-            _ => 0,
-        }
+        self.needed().unwrap_or(0)
     }
 }
