@@ -1,5 +1,5 @@
 -- The formats' facts, by the format's number f, and what they say of a texture word w. Assumes nothing.
-use Rattle.std.specs.Prelude.{ℕ, ◌*◌, ◌/◌, Bool, cond, ◌&&◌, ◌||◌, [], ◌∷◌, get_or, leb, eqb}
+use Rattle.std.specs.Prelude.{ℕ, ◌*◌, ◌/◌, Bool, cond, ◌&&◌, ◌||◌, [], ◌∷◌, get_or, leb, eqb, List, codes}
 use Rattle.nds.specs.Params as Params
 use Rattle.nds.specs.declared.texture_formats.Alpha.{Alpha}
 use Rattle.nds.specs.declared.texture_formats.Alpha.TheVariants.{Opaque, Transparent, Translucent}
@@ -46,6 +46,12 @@ alpha_with bit29 TransparentDependingOnParams = cond bit29 Transparent Opaque
 
 unfoldable pub alpha : ℕ → Alpha
 alpha w = alpha_with (Params.color0_transparent w) (alpha_desc (Params.format w))
+
+-- The word for an alpha kind: "alpha opaque for 0, translucent for 1 and 6, transparent for 5 and 7, .."
+unfoldable pub alpha_word : Alpha → List ℕ
+alpha_word Opaque = codes "opaque"
+alpha_word Transparent = codes "transparent"
+alpha_word Translucent = codes "translucent"
 
 -- "Data length is width times height times bits, divided by 8."
 unfoldable pub data_length : ℕ → ℕ

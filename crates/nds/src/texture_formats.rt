@@ -33,6 +33,19 @@ pub enum Alpha {
     Translucent = 2,
 }
 
+impl Alpha {
+    #[tactic(auto, unfolding(crate::specs::Formats::alpha_word))]
+    pub fn word(self) -> &'static [u8]
+        ensures { result.now ≡ Formats.alpha_word self }
+    {
+        match self {
+            Self::Opaque => b"opaque",
+            Self::Transparent => b"transparent",
+            Self::Translucent => b"translucent",
+        }
+    }
+}
+
 #[derive(Clone, Copy, Debug, PartialEq, Eq)]
 pub enum AlphaDesc {
     // Whatever the word says.
