@@ -13,7 +13,7 @@ use info_block::name_list::Entry;
 use nds::texture_formats::TextureFormat;
 use nds::texture_params::TextureParams;
 
-#[derive(Clone, Copy)]
+#[derive(Clone, Copy, Debug, PartialEq, Eq)]
 pub struct Header {
     pub texture_off: u16,
     pub tex_block_off: u32,
@@ -26,7 +26,7 @@ pub struct Header {
 }
 
 // Where a block's lists and data are, and how long the lists are.
-#[derive(Clone, Copy)]
+#[derive(Clone, Copy, Debug, PartialEq, Eq)]
 pub struct Layout {
     pub header: Header,
     pub textures: usize,
@@ -34,7 +34,7 @@ pub struct Layout {
 }
 
 // A part of a block: len bytes at pos.
-#[derive(Clone, Copy)]
+#[derive(Clone, Copy, Debug, PartialEq, Eq)]
 pub struct Place {
     pub pos: usize,
     pub len: usize,

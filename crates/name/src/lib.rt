@@ -12,7 +12,7 @@ ghost use Rattle.name.specs.Name as Text;
 use errors::Refusal;
 use text::{Writer, write};
 
-#[derive(Clone, Copy)]
+#[derive(Clone, Copy, Debug, PartialEq, Eq)]
 pub struct Name(pub [u8; 16]);
 
 // A letter or digit as it is, and an underscore for any other byte.

@@ -20,13 +20,13 @@ use nds::wrap::Wrap;
 use reading::tex::Tex;
 
 // How many textures and palettes a block has.
-#[derive(Clone, Copy)]
+#[derive(Clone, Copy, Debug, PartialEq, Eq)]
 pub struct Counts {
     pub textures: usize,
     pub palettes: usize,
 }
 
-#[derive(Clone, Copy)]
+#[derive(Clone, Copy, Debug, PartialEq, Eq)]
 pub struct TextureRecord {
     pub name: Name,
     pub params: TextureParams,
@@ -35,7 +35,7 @@ pub struct TextureRecord {
     pub alpha: Alpha,
 }
 
-#[derive(Clone, Copy)]
+#[derive(Clone, Copy, Debug, PartialEq, Eq)]
 pub struct PaletteRecord {
     pub name: Name,
     // In bytes, from the palette block's start.

@@ -16,7 +16,7 @@ use nds::texture_params::TextureParams;
 use reading::tex::Tex;
 
 // What a picture is made from, and where in the block it is.
-#[derive(Clone, Copy)]
+#[derive(Clone, Copy, Debug, PartialEq, Eq)]
 pub struct Places {
     pub params: TextureParams,
     pub data1: Place,
