@@ -87,7 +87,7 @@ fn read(input: &[u8]) -> Result<Tex<'_>, Refusal>
 }
 
 // The whole listing.
-#[tactic(auto, using(text::proofs::Puts::puts, crate::proofs::Listings::listings))]
+#[tactic(auto, using(text::proofs::Puts::puts, crate::proofs::Listings::listing_read))]
 fn put_listing(writer: &mut Writer<'_>, input: &[u8])
     requires { HasRoom (Listing.listing_text input.now) writer.old }
     ensures { Adds (Listing.listing_text input.now) writer.old writer.new }
