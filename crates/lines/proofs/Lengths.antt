@@ -4,6 +4,8 @@ use native.Mathlib.Omega.{arith}
 use lib.ListN.{length, length-append}
 use lib.Dec.{lit≤}
 use Rattle.nds.specs.Params.{format, width, height}
+use Rattle.nds.specs.Formats.{alpha_word}
+use Rattle.nds.specs.Wrap.{wrap_word}
 use Rattle.nds.specs.declared.texture_formats.Alpha.{Alpha}
 use Rattle.nds.specs.declared.texture_formats.Alpha.TheVariants.{Opaque, Transparent, Translucent}
 use Rattle.nds.specs.declared.wrap.Wrap.{Wrap}
@@ -15,17 +17,17 @@ use Rattle.nitro.specs.declared.tex.TextureRecord.{TextureRecord}
 use Rattle.nitro.specs.declared.tex.PaletteRecord.{PaletteRecord}
 use Rattle.text.specs.Text.{ascii, decimal, line}
 use Rattle.text.proofs.Decimals.{decimal_length}
-use Rattle.lines.specs.Lines.{wrap_word, alpha_word, texture_line, palette_line}
+use Rattle.lines.specs.Lines.{texture_line, palette_line}
 
 -- the words
 wrap_length : (w : Wrap) → length (wrap_word w) ≤ 6
-unfolding wrap_word ascii
+unfolding wrap_word
 wrap_length Clamp = lit≤ tt
 wrap_length Repeat = lit≤ tt
 wrap_length Mirror = lit≤ tt
 
 alpha_length : (a : Alpha) → length (alpha_word a) ≤ 11
-unfolding alpha_word ascii
+unfolding alpha_word
 alpha_length Opaque = lit≤ tt
 alpha_length Transparent = lit≤ tt
 alpha_length Translucent = lit≤ tt

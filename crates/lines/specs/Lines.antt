@@ -1,26 +1,12 @@
 -- The lines of a listing: 01, "Listing program". Assumes nothing.
 use Rattle.std.specs.Prelude.{ℕ, List, [], ◌∷◌}
 use Rattle.nds.specs.Params.{format, width, height}
-use Rattle.nds.specs.declared.texture_formats.Alpha.{Alpha}
-use Rattle.nds.specs.declared.texture_formats.Alpha.TheVariants.{Opaque, Transparent, Translucent}
-use Rattle.nds.specs.declared.wrap.Wrap.{Wrap}
-use Rattle.nds.specs.declared.wrap.Wrap.TheVariants.{Clamp, Repeat, Mirror}
+use Rattle.nds.specs.Formats.{alpha_word}
+use Rattle.nds.specs.Wrap.{wrap_word}
 use Rattle.name.specs.Name.{safe_text}
 use Rattle.nitro.specs.declared.tex.TextureRecord.{TextureRecord}
 use Rattle.nitro.specs.declared.tex.PaletteRecord.{PaletteRecord}
-use Rattle.text.specs.Text.{ascii, decimal, line}
-
--- 01, "Records": "each axis has a wrap word. It is `mirror` .., else `repeat` .., else `clamp`."
-unfoldable pub wrap_word : Wrap → List ℕ
-wrap_word Clamp = ascii "clamp"
-wrap_word Repeat = ascii "repeat"
-wrap_word Mirror = ascii "mirror"
-
--- "alpha opaque for 0, translucent for 1 and 6, transparent for 5 and 7, .."
-unfoldable pub alpha_word : Alpha → List ℕ
-alpha_word Opaque = ascii "opaque"
-alpha_word Transparent = ascii "transparent"
-alpha_word Translucent = ascii "translucent"
+use Rattle.text.specs.Text.{decimal, line}
 
 -- 01, "Listing program": "Texture lines: number, safe name, format, width, height, wrap S, wrap T, alpha kind."
 abbrev pub texture_fields : (number : ℕ) → TextureRecord → List (List ℕ)

@@ -8,34 +8,8 @@ ghost use Rattle.text.specs.Writer.{HasRoom, Adds};
 ghost use Rattle.lines.specs.Lines as Lines;
 
 use name::Name;
-use nds::texture_formats::Alpha;
-use nds::wrap::Wrap;
 use nitro::tex::{PaletteRecord, TextureRecord};
 use text::Writer;
-
-// The word for how an axis wraps.
-#[tactic(auto, unfolding(crate::specs::Lines::wrap_word, text::specs::Text::ascii))]
-fn wrap_word(wrap: Wrap) -> &'static [u8]
-    ensures { result.now ≡ Lines.wrap_word wrap }
-{
-    match wrap {
-        Wrap::Clamp => b"clamp",
-        Wrap::Repeat => b"repeat",
-        Wrap::Mirror => b"mirror",
-    }
-}
-
-// The word for an alpha kind.
-#[tactic(auto, unfolding(crate::specs::Lines::alpha_word, text::specs::Text::ascii))]
-fn alpha_word(alpha: Alpha) -> &'static [u8]
-    ensures { result.now ≡ Lines.alpha_word alpha }
-{
-    match alpha {
-        Alpha::Opaque => b"opaque",
-        Alpha::Transparent => b"transparent",
-        Alpha::Translucent => b"translucent",
-    }
-}
 
 // A name in letters, digits and underscores, and the space or line end behind it. 16 bytes are room for each such text, so it is never refused.
 #[tactic(auto, using(text::proofs::Puts::whole, name::proofs::Texts::safe_within))]
@@ -60,9 +34,9 @@ pub fn put_texture(writer: &mut Writer<'_>, n: usize, texture: TextureRecord)
     writer.put_number(params.format().number() as usize, b" ");
     writer.put_number(params.width() as usize, b" ");
     writer.put_number(params.height() as usize, b" ");
-    writer.put_field(wrap_word(texture.wrap_s), b" ");
-    writer.put_field(wrap_word(texture.wrap_t), b" ");
-    writer.put_field(alpha_word(texture.alpha), b"\n");
+    writer.put_field(texture.wrap_s.word(), b" ");
+    writer.put_field(texture.wrap_t.word(), b" ");
+    writer.put_field(texture.alpha.word(), b"\n");
 }
 
 // The line of palette n.

@@ -4,7 +4,8 @@ use mathlib.Core.List.{[], ◌∷◌, ◌++◌}
 use lib.ListN.{take, replicate}
 use Rattle.util.specs.Number.{number_at}
 use Rattle.nds.specs.Params.{width, height}
-use Rattle.nds.specs.Formats.{alpha, data_length}
+use Rattle.nds.specs.Formats.{alpha, alpha_word, data_length}
+use Rattle.nds.specs.Wrap.{wrap_word}
 use Rattle.name.specs.Name.{trimmed, safe_text}
 use Rattle.scripts.specs.Script.{run, outcome_of, bytes_at, expect, each_from, ◌>>=◌, ◌>>◌}
 use Rattle.info_block.specs.InfoBlock.{whole_list, name_list}
@@ -13,7 +14,7 @@ use Rattle.layout.specs.Positions.{data_at}
 use Rattle.nitro.proofs.Sample.{leaf, sample}
 use Rattle.text.specs.Text.{ascii, decimal_below, decimal, line}
 use Rattle.output.specs.Output.{pieces_from}
-use Rattle.lines.specs.Lines.{wrap_word, alpha_word, texture_line, palette_line}
+use Rattle.lines.specs.Lines.{texture_line, palette_line}
 use Rattle.refused.specs.Refused.{refused_line}
 use Rattle.listing.specs.Listing.{headed, lists_of, listing_outcome, listing_text}
 

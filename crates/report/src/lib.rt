@@ -61,18 +61,12 @@ pub fn counted(answer: Result<usize, Refusal>) {
 
 // Prints a space, and the word for a wrap mode.
 pub fn wrap(w: Wrap) {
-    match w {
-        Wrap::Clamp => text(b" clamp"),
-        Wrap::Repeat => text(b" repeat"),
-        Wrap::Mirror => text(b" mirror"),
-    }
+    text(b" ");
+    text(w.word());
 }
 
 // Prints a space, and the word for an alpha kind.
 pub fn alpha(a: Alpha) {
-    match a {
-        Alpha::Opaque => text(b" opaque"),
-        Alpha::Transparent => text(b" transparent"),
-        Alpha::Translucent => text(b" translucent"),
-    }
+    text(b" ");
+    text(a.word());
 }
