@@ -5,20 +5,20 @@ use mathlib.Core.Path.{◌≡◌, refl, sym, ap, ◌∙◌, subst}
 use mathlib.Core.List.{List, [], ◌∷◌, ◌++◌, append-nil, append_assoc}
 use native.Mathlib.Nat.{add-zero, add-suc, suc-mul, zero-mul, mul_comm, mul_left_comm, mul-add}
 use native.Mathlib.Nat.{mod-eq_of_lt, div-eq_of_lt, mul-add-mod_self_left, mul-add-mod_self_right, mul-add-div, mul-add-div_right}
-use native.Mathlib.Numerals.{add-one}
 use native.Mathlib.Omega.{arith}
 use lib.ListN.{length, take, drop, get_or, set, length-append, length-drop, take-append-drop, drop_of_length-le}
 use lib.Seq.{take-set-le, take-set-lt, drop-set-lt, drop-set-add, length-take-le, take_all, take-add, drop-drop, sets, length-sets, sets-eq}
+use lib.Bits.{bit_and, and_mask}
 use lib.Pow.{shr-shr}
 use borrow.Author.Count.{below_more}
 use Rattle.util.specs.Number.{number_at}
 use Rattle.util.proofs.Numbers.{number_one, number_add}
-use Rattle.output.proofs.Outputs.{sets_append, wrote_length, wrote_more, wrote_all, pieces_same, pieces_add}
+use Rattle.output.proofs.Outputs.{wrote_length, wrote_more, wrote_all, pieces_same, pieces_add}
 use Rattle.texels.specs.Texels.{block_color, format5}
 use Rattle.output.specs.Output.{pieces}
-use Rattle.paint.specs.Paint.{painted, pixel_at}
+use Rattle.paint.specs.Paint.{painted, pixel_at, TexelTable}
 use Rattle.compressed.specs.Blocks.{row_bytes, byte_of, row_of, BlockPut, compressed_texel, rows_texel}
-use Rattle.paint.proofs.Quads.{Fours, length_quads, Painting, paint_none, painted_at}
+use Rattle.paint.proofs.Quads.{Fours, length_quads, Painting, paint_none}
 use Rattle.texels.proofs.Texels.{below_four, block_four}
 use Rattle.texels.proofs.Index.{row_below}
 
@@ -96,26 +96,51 @@ module _ {width x : ℕ} {rows : ℕ → List ℕ} {i : ℕ} {entry now : List �
   pub block_all : 4 ≤ i → BlockPut width x rows entry now
   block_all h = record { row = λ r l. p.done r (omega arith); rest = p.rest }
 
--- a texel stored behind the first c of a row's
-pub row_more : (f : ℕ → List ℕ) (n c : ℕ) (l : List ℕ) {now texel : List ℕ} → Fours f 4 → c < 4 → now ≡ sets l (4 * n) (pieces f c) → texel ≡ f c
-    → sets now (4 * (n + c)) texel ≡ sets l (4 * n) (pieces f (c + 1))
-unfolding pieces
-row_more f n c l fours h w e =
-    let place : 4 * (n + c) ≡ 4 * n + length (pieces f c) = omega (arith, length_quads f c (λ i m. fours i (omega arith))) in
-    rw (w, e, place, add-one) (sets_append l (4 * n) (pieces f c) (f c))
-
--- texel c of those that a row's byte chooses
-abbrev pub chosen : (table : List ℕ) (row c : ℕ) → List ℕ
+-- texel c of those that a row's byte chooses from four texels
+abbrev pub chosen : (table : List (List ℕ)) (row c : ℕ) → List ℕ
 chosen table row c = pixel_at table (row / 2 ^ (2 * c) % 2 ^ 2)
 
-pub row_fours : (table : List ℕ) (row : ℕ) → 16 ≤ length table → Fours (chosen table row) 4
-row_fours table row h c l =
-    let k = row / 2 ^ (2 * c) % 2 ^ 2 in
-    length-take-le 4 (drop (4 * k) table) (simp length-drop (omega arith))
+abbrev pub FourTexels : List (List ℕ) → Type 0
+FourTexels table = Fours (pixel_at table) 4
 
-pub length_row_bytes : (table : List ℕ) (row : ℕ) → 16 ≤ length table → length (row_bytes table row) ≡ 16
+pub row_fours : (table : List (List ℕ)) (row : ℕ) → FourTexels table → Fours (chosen table row) 4
+row_fours table row four c l = four (row / 2 ^ (2 * c) % 2 ^ 2) (omega arith)
+
+pub length_row_bytes : (table : List (List ℕ)) (row : ℕ) → FourTexels table → length (row_bytes table row) ≡ 16
 unfolding row_bytes
-length_row_bytes table row h = length_quads (chosen table row) 4 (row_fours table row h)
+length_row_bytes table row four = length_quads (chosen table row) 4 (row_fours table row four)
+
+pub colors_four : (pal_block : List ℕ) (p extra : ℕ) {table : List (List ℕ)} → TexelTable (block_color pal_block p extra) 4 table → FourTexels table
+colors_four pal_block p extra t k h = rw (t.at k h) (block_four pal_block p extra k h)
+
+-- m texels written to the part of an output from a on
+put_part : (g : ℕ → List ℕ) (m a k : ℕ) (l : List ℕ) → k ≡ length l - a → a + 4 * m ≤ length l → length (pieces g m) ≡ 4 * m
+    → take a l ++ (painted g m (take k (drop a l)) ++ drop k (drop a l)) ≡ sets l a (pieces g m)
+unfolding painted
+put_part g m a k l e h sized =
+    rw (
+      take_all k (drop a l) (simp length-drop (omega arith)),
+      drop_of_length-le (drop a l) {i = k} (simp length-drop (omega arith)),
+      append-nil,
+      drop-drop (4 * m) a l,
+      sets-eq (pieces g m) l a (omega arith),
+      sized,
+      append_assoc,
+    )
+
+-- and bits 2c and 2c + 1 of a byte
+pub two_bits : (row c : ℕ) → bit_and (row / 2 ^ (2 * c)) 3 ≡ row / 2 ^ (2 * c) % 2 ^ 2
+two_bits row c = and_mask (row / 2 ^ (2 * c)) 2
+
+-- a row of four texels, written to the part of an output from a on
+pub row_put : (g : ℕ → List ℕ) (a k : ℕ) (l : List ℕ) {part : List ℕ} → k ≡ length l - a → a + 16 ≤ length l
+    → part ≡ painted g 4 (take k (drop a l)) → length part ≡ length (take k (drop a l))
+    → (take a l ++ (part ++ drop k (drop a l)) ≡ sets l a (pieces g 4)) × (length (pieces g 4) ≡ 16)
+unfolding painted
+row_put g a k l {part} e h is kept =
+    let whole = length-take-le k (drop a l) (simp length-drop (omega arith)) in
+    let sized : length (pieces g 4) ≡ 16 = omega (arith, simp (length-append, length-drop) at (sym (ap length is))) in
+    (rw is (put_part g 4 a k l e h sized), sized)
 
 -- four rows of a picture with texels f, of which the first i blocks are written: the invariant of the loop over the blocks
 pub record BlocksDone (width : ℕ) (f : ℕ → List ℕ) (i : ℕ) (entry now : List ℕ) : Type 0 where
@@ -226,18 +251,15 @@ module _ (width row i r b : ℕ) (data1 data2 pal_block : List ℕ) (p : ℕ) (h
       rw (x, y, x4, xm, y4, ym, is)
 
   -- its bytes are those that its byte chooses from the block's colours
-  pub row_texels : (extra : ℕ) (entry : List ℕ) {table : List ℕ}
-      → extra ≡ number_at 2 (2 * b) data2 → table ≡ painted (block_color pal_block p extra) 4 entry
+  pub row_texels : (extra : ℕ) {table : List (List ℕ)} → extra ≡ number_at 2 (2 * b) data2 → TexelTable (block_color pal_block p extra) 4 table
       → ((k : ℕ) → get_or data1 k 0 < 256) → 4 * b + 4 ≤ length data1
       → row_bytes table (byte_of data1 (4 * b + r)) ≡ pieces (λ c. rows_texel width data1 data2 pal_block p row (r * width + (4 * i + c))) 4
   unfolding row_bytes
-  row_texels extra entry {table} e t bytes fits =
+  row_texels extra {table} e t bytes fits =
       pieces_same (chosen table (byte_of data1 (4 * b + r))) (λ c. rows_texel width data1 data2 pal_block p row (r * width + (4 * i + c))) 4
       (λ c l.
       let k = byte_of data1 (4 * b + r) / 2 ^ (2 * c) % 2 ^ 2 in
-      ap (λ m. pixel_at m k) t
-      ∙ (painted_at (block_color pal_block p extra) 4 k entry (block_four pal_block p extra) (omega arith)
-      ∙ (rw (e, ← number_bits data1 (4 * b) bytes fits r c hr l) (sym (block_texel_lem c l)))))
+      t.at k (omega arith) ∙ rw (e, ← number_bits data1 (4 * b) bytes fits r c hr l) (sym (block_texel_lem c l)))
 
 -- n numbers behind n · i of them, and 4n behind n · 4i
 pub mul_below : (n i k : ℕ) → i < k → n * i + n ≤ n * k
@@ -255,21 +277,6 @@ band_below width height i h fours =
 pub rows_texel_lem : (width : ℕ) (data1 data2 pal_block : List ℕ) (p i n : ℕ) → 0 < width
     → rows_texel width data1 data2 pal_block p i n ≡ compressed_texel width data1 data2 pal_block p (width * (4 * i) + n)
 rows_texel_lem width data1 data2 pal_block p i n h = rw (mul-add-mod_self_left width (4 * i) n, mul-add-div h (4 * i) n)
-
--- m texels written to the part of an output from a on
-put_part : (g : ℕ → List ℕ) (m a k : ℕ) (l : List ℕ) → k ≡ length l - a → a + 4 * m ≤ length l → length (pieces g m) ≡ 4 * m
-    → take a l ++ (painted g m (take k (drop a l)) ++ drop k (drop a l)) ≡ sets l a (pieces g m)
-unfolding painted
-put_part g m a k l e h sized =
-    rw (
-      take_all k (drop a l) (simp length-drop (omega arith)),
-      drop_of_length-le (drop a l) {i = k} (simp length-drop (omega arith)),
-      append-nil,
-      drop-drop (4 * m) a l,
-      sets-eq (pieces g m) l a (omega arith),
-      sized,
-      append_assoc,
-    )
 
 -- n texels written, and m behind them
 pub paint_part : (f g : ℕ → List ℕ) (n m a k : ℕ) {entry now part : List ℕ} → Painting f n entry now → a ≡ 4 * n → k ≡ length now - a

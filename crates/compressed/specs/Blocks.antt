@@ -6,7 +6,7 @@ use Rattle.output.specs.Output.{pieces}
 use Rattle.paint.specs.Paint.{pixel_at}
 
 -- The four texels that a byte chooses from a table, its low bits first.
-unfoldable pub row_bytes : (table : List ℕ) (row : ℕ) → List ℕ
+unfoldable pub row_bytes : (table : List (List ℕ)) (row : ℕ) → List ℕ
 row_bytes table row = pieces (λ c. pixel_at table (row / 2 ^ (2 * c) % 2 ^ 2)) 4
 
 abbrev pub byte_of : List ℕ → ℕ → ℕ
@@ -21,10 +21,9 @@ pub record BlockPut (width x : ℕ) (rows : ℕ → List ℕ) (entry exit : List
   pub row : (i : ℕ) → i < 4 → row_of width i exit ≡ sets (row_of width i entry) (4 * x) (rows i)
   pub rest : drop (4 * (4 * width)) exit ≡ drop (4 * (4 * width)) entry
 
-pub record BlockFits (width x b length1 table output : ℕ) : Type 0 where
+pub record BlockFits (width x b length1 output : ℕ) : Type 0 where
   pub within : x + 4 ≤ width
   pub texels : 4 * b + 4 ≤ length1
-  pub colors : 16 ≤ table
   pub room : 4 * (4 * width) ≤ output
 
 -- Texel n of a block-compressed picture, and of its rows from row 4i on.

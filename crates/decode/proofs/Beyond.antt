@@ -10,22 +10,20 @@ use lib.Seq.{get_or-take, length-take-le, take_all}
 use lib.Dec.{eqb, ltb}
 use borrow.Author.Count.{below_none, below_more}
 use borrow.Author.Tests.{le-ltb, ltb-true, ltb-false, eqb-false}
-use Rattle.util.specs.Outcome.{◌>>=◌}
+use Rattle.util.specs.Outcome.{result, ◌>>=◌}
 use Rattle.util.specs.Number.{number_at}
 use Rattle.util.proofs.Numbers.{number_in_part}
 use Rattle.nds.specs.Params.{width, height, format}
 use Rattle.nds.specs.Formats.{data_length, second_length}
 use Rattle.places.specs.Sources.{Sources}
 use Rattle.texels.specs.Texels.{texel_bits, block_of, format1, formats2to4, format5, format6, format7}
-use Rattle.decode.specs.Pictures.{texel_count, texel, picture_bytes, lacks_palette, ready, sources, decoded}
-use Rattle.decode.proofs.Pictures.{eights, length_by, second_by, texel_by}
+use Rattle.paint.specs.Paint.{painted}
+use Rattle.decode.specs.Checks.{Decodable, Exact}
+use Rattle.decode.specs.Pictures.{texel_count, picture_length, texel, picture_bytes, lacks_palette, ready, decoded, needed}
+use Rattle.decode.proofs.Pictures.{writes_decoded, eights, length_by, second_by, texel_by}
+use Rattle.output.specs.Output.{Writes}
 use Rattle.output.proofs.Outputs.{pieces_same}
 use Rattle.compressed.proofs.Rows.{mul_below}
-
--- the sources with their data cut to the lengths that the word says
-abbrev pub needed : Sources → Sources
-needed s =
-    sources s.word (take (data_length s.word) s.parts.data1) (take (second_length s.word) s.parts.data2) s.palette s.pal_block
 
 -- a cut at m keeps whether m are there
 cut_short : (m : ℕ) (l : List ℕ) → ltb (length (take m l)) m ≡ ltb (length l) m
@@ -34,6 +32,16 @@ cut_short m l = go (ltb (length l) m) refl
     go : (t : Bool) → ltb (length l) m ≡ t → ltb (length (take m l)) m ≡ t
     go true e = rw (take_all m l (omega (arith, ltb-true (length l) m e))) e
     go false e = rw (length-take-le m l (ltb-false (length l) m e)) (le-ltb m m (omega arith))
+
+-- the data that are needed are as long as the word says
+pub needed_exact : (s t : Sources) {output : ℕ} → t ≡ needed s → Decodable s.word (length s.parts.data1) (length s.parts.data2) output
+    → Exact t.word (length t.parts.data1) (length t.parts.data2) output
+needed_exact s t e d = rw e (record {
+  some = d.some;
+  data1 = length-take-le (data_length s.word) s.parts.data1 d.data1;
+  data2 = length-take-le (second_length s.word) s.parts.data2 d.data2;
+  room = d.room;
+})
 
 -- a number before the cut
 number_cut : (size p m : ℕ) (l : List ℕ) → p + size ≤ m → number_at size p (take m l) ≡ number_at size p l
@@ -112,6 +120,16 @@ module _ (s : Sources) (n : ℕ) (h : n < texel_count s.word) where
 same_bytes : (s : Sources) → (format s.word ≡ 0 → ⊥) → picture_bytes s ≡ picture_bytes (needed s)
 unfolding picture_bytes
 same_bytes s some = pieces_same (texel s) (texel (needed s)) (texel_count s.word) (λ n h. same_texel s n h some)
+
+-- texels of the needed data, written: those of all the data
+pub writes_needed : (s t : Sources) (out : List ℕ) {exit : List ℕ} → t ≡ needed s
+    → ready s.word (length s.parts.data1) (length s.parts.data2) s.palette ≡ result tt
+    → Decodable s.word (length s.parts.data1) (length s.parts.data2) (length out)
+    → exit ≡ painted (texel t) (texel_count t.word) out → Writes (decoded s) out (result (picture_length s.word)) exit
+unfolding painted
+writes_needed s t out e is d w =
+    let same = pieces_same (texel s) (texel (needed s)) (texel_count s.word) (λ n h. same_texel s n h (λ z. omega (arith, z, d.some))) in
+    rw (w, e, ← same) (writes_decoded s out is d.room)
 
 pub beyond_ignored : (s : Sources) → decoded s ≡ decoded (needed s)
 unfolding decoded ready ◌>>=◌

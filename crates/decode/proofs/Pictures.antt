@@ -24,7 +24,7 @@ use Rattle.places.specs.Sources.{Sources, sources_of}
 use Rattle.places.proofs.Sources.{passed_on}
 use Rattle.paint.specs.Paint.{painted, IndexedFits}
 use Rattle.decode.specs.Pictures.{texel_count, picture_length, texel, texel_in, picture_bytes, lacks_palette, lacks_data, ready, decoded, picture_of}
-use Rattle.decode.specs.Checks.{Decodable, lacks_room, checked}
+use Rattle.decode.specs.Checks.{Decodable, Exact, lacks_room, checked}
 use Rattle.compressed.specs.Blocks.{PictureFits}
 use Rattle.paint.proofs.Quads.{length_quads, painted_same}
 use Rattle.texels.proofs.Texels.{format1_four, formats2to4_four, format5_four, format6_four, format7_four}
@@ -223,27 +223,30 @@ module _ (w : ℕ) where
   unfolding second_length
   second_by e = rw (eq-eqb (format w) 5 e)
 
--- what the loops of a format ask for, of a texture that can be decoded
-module _ {w length1 length2 output : ℕ} (d : Decodable w length1 length2 output) where
-  bits_there : {n f : ℕ} → n ≡ texel_count w → format w ≡ f → n * bits_per_texel f ≤ 8 * length1
-  bits_there {n} {f} count is =
+-- what the loops of a format ask for, of a texture whose data are as long as its word says
+module _ {w length1 length2 output : ℕ} (d : Exact w length1 length2 output) where
+  bits_there : {f : ℕ} → format w ≡ f → texel_count w * bits_per_texel f ≡ 8 * length1
+  bits_there {f} is =
       let m = (eights w).across * (eights w).down in
       let bits = bits_per_texel f in
       let all : texel_count w * bits ≡ 8 * (8 * m * bits) = rw ((eights w).texels, ← mul_assoc 8 (8 * m) bits, ← mul_assoc 8 8 m) refl in
-      rw count (omega (arith, d.data1, length_by w is, all))
+      omega (arith, d.data1, length_by w is, all)
+
+  pub bytes_fit : {f : ℕ} → format w ≡ f → bits_per_texel f ≡ 8 → (length1 ≡ texel_count w) × (4 * length1 ≤ output)
+  bytes_fit is eight = let there = rw eight at (bits_there is) in (omega (arith, there), omega (arith, there, d.room))
 
   pub indexed_fits : {n : ℕ} (f : ℕ) → (n ≡ texel_count w) × (n < 2 ^ 32) → format w ≡ f → 0 < bits_per_texel f → bits_per_texel f ≤ 8
       → IndexedFits (bits_per_texel f) n length1 output
   indexed_fits f (count, small) is some byte =
-      record { some = some; byte = byte; small = small; there = bits_there count is; room = omega (arith, count, d.room) }
+      record { some = some; byte = byte; small = small; there = rw count (omega (arith, bits_there is)); room = omega (arith, count, d.room) }
 
-  pub direct_fits : {n : ℕ} → n ≡ texel_count w → format w ≡ 7 → (4 * n ≤ output) × (2 * n ≤ length1)
-  direct_fits count is = (omega (arith, count, d.room), omega (arith, bits_there count is))
+  pub direct_fits : format w ≡ 7 → (length1 / 2 ≡ texel_count w) × (4 * (length1 / 2) ≤ output)
+  direct_fits is = let there = bits_there is in (omega (arith, there), omega (arith, there, d.room))
 
   pub picture_fits : format w ≡ 5 → PictureFits (width w) (height w) length1 length2 output
   picture_fits is =
       let e = eights w in
-      let there = bits_there refl is in
+      let there = bits_there is in
       record {
         fours = omega (arith, e.wide);
         rows = omega (arith, e.high);

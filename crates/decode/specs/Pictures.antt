@@ -1,5 +1,5 @@
 -- Pictures: texels in order, direct decoding, and a picture from a block. Assumes nothing.
-use Rattle.std.specs.Prelude.{ℕ, ◌*◌, ◌/◌, ◌%◌, Bool, false, cond, ◌||◌, List, length, ltb, eqb, Option, None, Some, unwrap_or}
+use Rattle.std.specs.Prelude.{ℕ, ◌*◌, ◌/◌, ◌%◌, Bool, false, cond, ◌||◌, List, length, take, ltb, eqb, Option, None, Some, unwrap_or}
 use Rattle.util.specs.Outcome.{Outcome, result, refusal, ◌>>=◌}
 use Rattle.nds.specs.Params.{width, height, format, color0_transparent}
 use Rattle.nds.specs.Formats.{palette_needed, data_length, second_length}
@@ -67,6 +67,11 @@ decoded s = do
 abbrev pub sources : (word : ℕ) (data1 data2 : List ℕ) → Option ℕ → (pal_block : List ℕ) → Sources
 sources word data1 data2 palette pal_block =
     record { word = word; parts = record { data1 = data1; data2 = data2 }; palette = palette; pal_block = pal_block }
+
+-- "Data beyond the needed length is ignored": with the data cut to the lengths that the word says.
+abbrev pub needed : Sources → Sources
+needed s =
+    sources s.word (take (data_length s.word) s.parts.data1) (take (second_length s.word) s.parts.data2) s.palette s.pal_block
 
 -- "A picture from a block: reading, 7, 8 (also where the palette is unneeded), 9, 10, 12, 11."
 unfoldable pub picture_of : (n : ℕ) → Option ℕ → Answer Contents → Outcome (List ℕ)

@@ -2,7 +2,7 @@
 
 #![tactic(auto)]
 
-ghost use Rattle.std.specs.Prelude.{◌≡◌, ◌+◌, ◌*◌, ◌≤◌, ◌<◌, length};
+ghost use Rattle.std.specs.Prelude.{◌≡◌, ◌+◌, ◌*◌, ◌/◌, ◌≤◌, ◌<◌, length};
 ghost use Rattle.texels.specs.Texels as Texels;
 ghost use Rattle.paint.specs.Paint as Paint;
 ghost use Rattle.direct.specs.Words as Words;
@@ -14,13 +14,13 @@ use util::unsigned::Unsigned;
 
 // Direct colour texture, each texel by itself.
 #[tactic(auto, unfolding(texels::specs::Texels::format7))]
-fn decode_small_format7(out: &mut [u8], num_texels: usize, data1: &[u8])
-    requires { (4 * num_texels ≤ length out.old) × (2 * num_texels ≤ length data1.now) }
-    ensures { out.new ≡ Paint.painted (Texels.format7 data1.now) num_texels out.old }
+fn decode_small_format7(out: &mut [u8], data1: &[u8])
+    requires { 4 * (length data1.now / 2) ≤ length out.old }
+    ensures { out.new ≡ Paint.painted (Texels.format7 data1.now) (length data1.now / 2) out.old }
 {
     put_texels(
         out,
-        num_texels,
+        data1.len() / 2,
         |n|
             requires { 2 * n + 2 ≤ length data1.now }
             ensures { result ≡ Texels.format7 data1.entry.now n }
@@ -89,15 +89,15 @@ fn direct_by(lows: &[u32], highs: &[u32], lo: u8, hi: u8) -> [u8; 4]
 
 // Direct colour texture, by a table for each byte of a colour.
 #[tactic(auto, using(crate::proofs::Words::number_two), unfolding(texels::specs::Texels::format7))]
-fn decode_large_format7(out: &mut [u8], num_texels: usize, data1: &[u8])
-    requires { (4 * num_texels ≤ length out.old) × (2 * num_texels ≤ length data1.now) }
-    ensures { out.new ≡ Paint.painted (Texels.format7 data1.now) num_texels out.old }
+fn decode_large_format7(out: &mut [u8], data1: &[u8])
+    requires { 4 * (length data1.now / 2) ≤ length out.old }
+    ensures { out.new ≡ Paint.painted (Texels.format7 data1.now) (length data1.now / 2) out.old }
 {
     let lows = low_words();
     let highs = high_words();
     put_texels(
         out,
-        num_texels,
+        data1.len() / 2,
         |n|
             requires { (2 * n + 2 ≤ length data1.now) × Paint.Tabled Words.low_word lows × Paint.Tabled Words.high_word highs }
             ensures { result ≡ Texels.format7 data1.entry.now n }
@@ -105,14 +105,14 @@ fn decode_large_format7(out: &mut [u8], num_texels: usize, data1: &[u8])
     );
 }
 
-// Direct colour texture: 16-bit colours, no palette. The tables are worth their making from some thousand texels on.
-pub fn decode_format7(out: &mut [u8], num_texels: usize, data1: &[u8])
-    requires { (4 * num_texels ≤ length out.old) × (2 * num_texels ≤ length data1.now) }
-    ensures { out.new ≡ Paint.painted (Texels.format7 data1.now) num_texels out.old }
+// Direct colour texture: 16-bit colours, no palette. Each two bytes of the data are a texel. The tables are worth their making from some thousand texels on.
+pub fn decode_format7(out: &mut [u8], data1: &[u8])
+    requires { 4 * (length data1.now / 2) ≤ length out.old }
+    ensures { out.new ≡ Paint.painted (Texels.format7 data1.now) (length data1.now / 2) out.old }
 {
-    if num_texels < 4096 {
-        decode_small_format7(out, num_texels, data1)
+    if data1.len() < 8192 {
+        decode_small_format7(out, data1)
     } else {
-        decode_large_format7(out, num_texels, data1)
+        decode_large_format7(out, data1)
     }
 }

@@ -1,17 +1,18 @@
 -- The laws of texels written one after another. Assumes nothing.
 use Prim.Native.Nat.{ℕ, zero, suc, ◌+◌, ◌*◌, ◌≤◌, ◌<◌}
 use mathlib.Core.Path.{◌≡◌, refl, sym, ◌∙◌, subst}
-use mathlib.Core.Bool.{Bool, true, false}
-use mathlib.Core.List.{List, ◌++◌, append_assoc}
+use mathlib.Core.Bool.{Bool, true, false, cond}
+use mathlib.Core.List.{List, [], ◌++◌, append_assoc}
 use native.Mathlib.Numerals.{add-one}
 use native.Mathlib.Omega.{arith}
 use lib.ListN.{length, take, drop, length-append}
 use lib.Seq.{sets, take_at, drop_at}
-use lib.Dec.{ltb}
-use borrow.Author.Tests.{ltb-true, ltb-false}
+use lib.Dec.{ltb, eqb}
+use borrow.Author.Count.{below_more}
+use borrow.Author.Tests.{ltb-true, ltb-false, eq-eqb, ne_eqb}
 use Rattle.output.proofs.Outputs.{Wrote, wrote_none, wrote_more, pieces_length, pieces_same}
 use Rattle.output.specs.Output.{pieces}
-use Rattle.paint.specs.Paint.{painted}
+use Rattle.paint.specs.Paint.{painted, Paints, Makes}
 
 -- texels of four bytes each
 abbrev pub Fours : (f : ℕ → List ℕ) (n : ℕ) → Type 0
@@ -55,6 +56,43 @@ module _ (f : ℕ → List ℕ) (n : ℕ) {entry now : List ℕ} (w : Painting f
   pub painted_all : now ≡ painted f n entry
   unfolding painted
   painted_all = w.holds ∙ rw (sym w.ends)
+
+-- texels that may be made, written one after another
+pub record PaintingMade (post : ℕ → List ℕ → Type 0) (n : ℕ) (entry now : List ℕ) : Type 0 where
+  pub texel : ℕ → List ℕ
+  pub made : (k : ℕ) → k < n → post k (texel k)
+  pub painting : Painting texel n entry now
+
+module _ {post : ℕ → List ℕ → Type 0} where
+  pub made_none : (entry : List ℕ) → PaintingMade post 0 entry entry
+  made_none entry = record { texel = λ k. []; made = λ k h. absurd (omega arith); painting = paint_none _ entry }
+
+  module _ {n : ℕ} {entry now : List ℕ} (w : PaintingMade post n entry now) where
+    pub made_more : {texel : List ℕ} → post n texel → length texel ≡ 4 → 4 * n + 4 ≤ length entry
+        → PaintingMade post (n + 1) entry (sets now (4 * n) texel)
+    made_more {texel} is four h = record {
+      texel = with;
+      made = below_more (λ k. post k (with k)) n (λ k l. subst (post k) (before k l) (w.made k l)) (subst (post n) here is);
+      painting =
+          paint_more with n (rw (← pieces_same w.texel with n before) w.painting) here (rw (← here) four) h;
+    }
+      where
+        with : ℕ → List ℕ
+        with k = cond (eqb k n) texel (w.texel k)
+
+        before : (k : ℕ) → k < n → w.texel k ≡ with k
+        before k l = rw (ne_eqb k n (λ e. omega (arith, e)))
+
+        here : texel ≡ with n
+        here = rw (eq-eqb n n refl)
+
+    pub made_all : Paints post n entry now
+    made_all = record { texel = w.texel; made = w.made; paints = painted_all w.texel n w.painting }
+
+  -- where only one texel may be made for a number
+  pub painted_as : (f : ℕ → List ℕ) (n : ℕ) {entry exit : List ℕ} → Paints post n entry exit → Makes post n f → exit ≡ painted f n entry
+  unfolding painted
+  painted_as f n p makes = p.paints ∙ rw (pieces_same p.texel f n (λ k h. makes k (p.texel k) h (p.made k h)))
 
 -- texel k of an output with n texels
 pub painted_at : (f : ℕ → List ℕ) (n k : ℕ) (entry : List ℕ) → Fours f n → k < n → take 4 (drop (4 * k) (painted f n entry)) ≡ f k

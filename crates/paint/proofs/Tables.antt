@@ -1,41 +1,48 @@
 -- The laws of a palette written out as a table of texels, and of the texels that are taken from it. Assumes nothing.
-use Prim.Native.Nat.{ℕ, ◌+◌, ◌*◌, ◌/◌, ◌%◌, ◌^◌, ◌≤◌, ◌<◌}
+use Prim.Native.Nat.{ℕ, zero, suc, ◌+◌, ◌/◌, ◌%◌, ◌^◌, ◌≤◌, ◌<◌}
 use mathlib.Core.Path.{◌≡◌, refl, sym, ◌∙◌}
 use mathlib.Core.Bool.{Bool, true, false}
 use mathlib.Core.List.{List}
-use native.Mathlib.Nat.{not-suc-le-zero}
+use native.Mathlib.Nat.{add-zero, zero-add, not-suc-le-zero}
 use native.Mathlib.Omega.{arith}
-use lib.ListN.{length, take, drop, get_or, set, replicate, length-set}
+use lib.ListN.{length, get_or, set, replicate, length-set}
 use lib.Seq.{get_or-set_same, get_or-set_other}
 use lib.Dec.{ltb}
 use borrow.Author.Tests.{ltb-true, ltb-false}
+use Rattle.std.specs.Fn.{Mut, Called}
+use Rattle.std.specs.Array.{IsFromFnResultFrom, IsFromFnResult}
 use Rattle.texels.specs.Texels.{pixel, palette_color, texel_bits, alpha3, a3i5, indexed, formats2to4, a5i3}
-use Rattle.paint.specs.Paint.{painted, with_alpha, pixel_at, indexed_texel, Tabled, IndexedFits}
+use Rattle.paint.proofs.Quads.{painted_same}
+use Rattle.paint.specs.Paint.{painted, with_alpha, pixel_at, indexed_texel, TableOf, Tabled, TexelTable, IndexedFits}
 use Rattle.texels.specs.Index.{IndexThere}
-use Rattle.paint.proofs.Quads.{Fours, painted_at, painted_room}
 use Rattle.texels.proofs.Index.{row_below, texel_lt}
-use Rattle.texels.proofs.Texels.{indexed_four, texel_byte}
 
--- a table of the first `count` colours
-pub record Table (clear0 : Bool) (pal : List ℕ) (p count : ℕ) (table : List ℕ) : Type 0 where
-  pub room : 4 * count ≤ length table
-  pub at : (k : ℕ) → k < count → take 4 (drop (4 * k) table) ≡ indexed clear0 pal p k
+-- a table of what a closure that stays as it is gives for each number
+module _ {F A : Type 0} (none : A) (rule : ℕ → A) (n : ℕ) (g : Mut F (ℕ × Unit {0}) A) (f : F)
+    (step : (i : ℕ) (made : A) (later : F) → i < n → Called g f (i, tt) made later → (made ≡ rule i) × (later ≡ f)) (table : List A) where
+  calls_from : (m i : ℕ) → i + m ≡ n → IsFromFnResultFrom g f table i m → (k : ℕ) → k < m → get_or table (i + k) none ≡ rule (i + k)
+  calls_from zero i e calls k h = absurd (not-suc-le-zero h)
+  calls_from (suc m) i e (later, made, is, call, calls) zero h = rw add-zero (is.1 none ∙ (step i made later (omega arith) call).0)
+  calls_from (suc m) i e (later, made, is, call, calls) (suc k) h =
+      let next : i + suc k ≡ i + 1 + k = omega arith in
+      rw next (calls_from m (i + 1) (omega arith) (rw (step i made later (omega arith) call).1 at calls) k (omega arith))
 
-pub table_made : (clear0 : Bool) (pal : List ℕ) (p count : ℕ) (before : List ℕ) {table : List ℕ}
-    → table ≡ painted (indexed clear0 pal p) count before → Table clear0 pal p count table
-table_made clear0 pal p count before e =
-    let fours : Fours (indexed clear0 pal p) count = λ i l. indexed_four clear0 pal p i in
-    record {
-      room = rw e (painted_room (indexed clear0 pal p) count before fours);
-      at = λ k h. rw e (painted_at (indexed clear0 pal p) count k before fours h);
-    }
+  pub table_of : IsFromFnResult g f table n → TableOf none rule n table
+  table_of calls = record { long = calls.long; at = λ k h. rw zero-add at (calls_from n 0 (zero-add n) calls.each k h) }
 
 -- formats 2 to 4: the texel is in the table
-module _ (bits : ℕ) (texels table : List ℕ) (n : ℕ) where
-  pub indexed_texel_lem : (clear0 : Bool) (pal : List ℕ) (p : ℕ) → Table clear0 pal p (2 ^ bits) table
+module _ (bits : ℕ) (texels : List ℕ) (table : List (List ℕ)) (n : ℕ) where
+  pub indexed_texel_lem : (clear0 : Bool) (pal : List ℕ) (p : ℕ) → TexelTable (indexed clear0 pal p) (2 ^ bits) table
       → formats2to4 bits clear0 texels pal p n ≡ indexed_texel bits texels table n
   unfolding formats2to4
   indexed_texel_lem clear0 pal p t = sym (t.at (texel_bits bits texels n) (texel_lt bits texels n))
+
+-- and so are all, where the table has all indices
+pub painted_by_table : (bits : ℕ) (texels : List ℕ) (table : List (List ℕ)) (clear0 : Bool) (pal : List ℕ) (p count size : ℕ) (entry : List ℕ)
+    → TexelTable (indexed clear0 pal p) size table → size ≡ 2 ^ bits
+    → painted (indexed_texel bits texels table) count entry ≡ painted (formats2to4 bits clear0 texels pal p) count entry
+painted_by_table bits texels table clear0 pal p count size entry t e =
+    painted_same _ _ entry (λ i. indexed_texel_lem bits texels table i clear0 pal p (rw e at t)) refl
 
 pub index_there : (bits count length1 output n : ℕ) → IndexedFits bits count length1 output → n < count → IndexThere bits n length1
 index_there bits count length1 output n f h = record {
@@ -64,32 +71,31 @@ module _ (rule : ℕ → ℕ) where
           rw same (get_or-set_same table i x 0 (omega (arith, t.long)) ∙ is)
 
   pub tabled_all : {i : ℕ} {table : List ℕ} → TabledTo rule i table → 256 ≤ i → Tabled rule table
-  tabled_all t h = record { long = sym t.long; at = λ k l. t.at k (omega arith) }
+  tabled_all t h = record { long = t.long; at = λ k l. t.at k (omega arith) }
 
 -- a texel that is its byte's, from a table of the texels of all bytes
-pub byte_texel : (texel : ℕ → List ℕ) (before : List ℕ) {table : List ℕ} → ((b : ℕ) → length (texel b) ≡ 4) → table ≡ painted texel 256 before
-    → (texels : List ℕ) (n : ℕ) → get_or texels n 0 < 256 → texel (get_or texels n 0) ≡ indexed_texel 8 texels table n
-byte_texel texel before four e texels n byte =
-    rw (e, ← texel_byte texels n byte) (sym (painted_at texel 256 (get_or texels n 0) before (λ b l. four b) byte))
+pub byte_texel : (texel : ℕ → List ℕ) {table : List (List ℕ)} → TexelTable texel 256 table → (texels : List ℕ) (n : ℕ) → get_or texels n 0 < 256
+    → texel (get_or texels n 0) ≡ pixel_at table (get_or texels n 0)
+byte_texel texel t texels n byte = sym (t.at (get_or texels n 0) byte)
 
--- formats 1 and 6: its colour is
+-- formats 1 and 6: a texel's colour is in the table of its palette
 other_alpha : (color a : ℕ) → with_alpha (pixel color 31) a ≡ pixel color a
 unfolding pixel
 other_alpha color a = refl
 
-translucent : (pal : List ℕ) (p count : ℕ) {table : List ℕ} → Table false pal p count table → (k a : ℕ) → k < count
-    → with_alpha (take 4 (drop (4 * k) table)) a ≡ pixel (palette_color pal p k) a
+translucent : (pal : List ℕ) (p count : ℕ) {table : List (List ℕ)} → TexelTable (indexed false pal p) count table → (k a : ℕ) → k < count
+    → with_alpha (pixel_at table k) a ≡ pixel (palette_color pal p k) a
 unfolding indexed
 translucent pal p count t k a h = rw (t.at k h) (other_alpha (palette_color pal p k) a)
 
 -- by the texel's byte
-module _ (pal : List ℕ) (p b : ℕ) {table : List ℕ} (byte : b < 256) where
-  pub a3i5_texel : Table false pal p 32 table → with_alpha (pixel_at table (b % 32)) (alpha3 (b / 32)) ≡ a3i5 pal p b
+module _ (pal : List ℕ) (p b : ℕ) {table : List (List ℕ)} (byte : b < 256) where
+  pub a3i5_texel : TexelTable (indexed false pal p) 32 table → with_alpha (pixel_at table (b % 32)) (alpha3 (b / 32)) ≡ a3i5 pal p b
   a3i5_texel t =
       let small : b / 32 % 8 ≡ b / 32 = omega arith in
       rw small (translucent pal p 32 t (b % 32) (alpha3 (b / 32)) (omega arith))
 
-  pub a5i3_texel : Table false pal p 8 table → with_alpha (pixel_at table (b % 8)) (b / 8) ≡ a5i3 pal p b
+  pub a5i3_texel : TexelTable (indexed false pal p) 8 table → with_alpha (pixel_at table (b % 8)) (b / 8) ≡ a5i3 pal p b
   a5i3_texel t =
       let small : b / 8 % 32 ≡ b / 8 = omega arith in
       rw small (translucent pal p 8 t (b % 8) (b / 8) (omega arith))

@@ -1,10 +1,13 @@
--- `paint::put_bytes_by_table` meets its contract: the texels are in the table of all bytes. Assumes nothing.
+-- `paint::put_bytes_by_table` meets its contract: a byte's texel is in the table. Assumes nothing.
 use mathlib.Core.Path.{refl, ◌∙◌}
+use borrow.Author.Rules.{rules}
+use Rattle.paint.specs.Paint.{pixel_at, TexelTable}
 use Rattle.paint.proofs.Quads.{painted_same}
-use Rattle.paint.proofs.Tables.{byte_texel}
+use Rattle.paint.proofs.Tables.{table_of, byte_texel}
 use Rattle.paint.proofs.put_bytes_by_table.Goals as goal
 
 pub returns : goal.returns
-returns g c = λ f four makes.
-    c.put_indexed.ensures
-    ∙ painted_same _ _ _ (λ i. byte_texel f _ four (c.put_texels.ensures f makes) c.args.data1.now i (c.type_inv.data1 i).fits) refl
+returns g c = λ f makes.
+    let table : TexelTable f 256 c.from_fn-table.result = table_of _ _ _ _ _ (λ i made later h call. search (rules, makes)) _ c.from_fn-table.ensures.items in
+    c.put_bytes.ensures (pixel_at c.from_fn-table.result) (λ b made h is. is)
+    ∙ painted_same _ _ _ (λ n. byte_texel f table c.args.data1.now n (c.type_inv.data1 n).fits) refl
