@@ -3,7 +3,7 @@ use mathlib.Core.Path.{◌≡◌, refl}
 use lib.ListN.{length}
 use Rattle.nds.specs.Params.{width, height}
 use Rattle.text.specs.Text.{ascii, decimal_below, decimal, line}
-use Rattle.pam.specs.Pam.{header_text}
+use Rattle.pam.specs.Pam.{last_lines, header_text}
 
 pub record Examples : Type 0 where
   -- the header of 01's sample, 8 by 8
@@ -13,7 +13,7 @@ pub record Examples : Type 0 where
 
 -- Each by computation.
 pub examples : Examples
-unfolding width height ascii decimal_below decimal line header_text
+unfolding width height ascii decimal_below decimal line last_lines header_text
 examples = record {
   sample_header = refl;
   longest_header = refl;

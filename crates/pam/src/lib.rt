@@ -7,30 +7,35 @@ ghost use Rattle.output.specs.Output.{Writes};
 ghost use Rattle.errors.specs.Refusal.{result_outcome};
 ghost use Rattle.scripts.specs.Script.{run};
 ghost use Rattle.reading.specs.Tex.{read_tex};
+ghost use Rattle.places.specs.Sources.{sources_at};
 ghost use Rattle.text.specs.Text.{decimal};
-ghost use Rattle.text.specs.Put.{Room, Put};
+ghost use Rattle.text.specs.Writer.{HasRoom, Adds};
 ghost use Rattle.pam.specs.Pam as Pam;
 
 use decode::picture::picture_at;
 use errors::Refusal;
 use nds::texture_params::TextureParams;
-use places::locate;
-use text::{put, put_number};
+use places::{Places, locate};
+use text::Writer;
 
-// The header of a picture of the word's size, at the output's start.
-#[tactic(auto, using(text::proofs::Puts::puts, crate::proofs::Headers::header_is), unfolding(text::specs::Text::ascii, crate::proofs::Headers::last_lines))]
-fn put_header(out: &mut [u8], params: TextureParams) -> usize
-    requires { Room (Pam.header_text params.0) out.old 0 }
-    ensures { Put (Pam.header_text params.0) out.old 0 out.new result }
+// The lines behind the height, which every header has.
+#[tactic(auto, unfolding(text::specs::Text::ascii, text::specs::Text::decimal_below, text::specs::Text::decimal, text::specs::Text::line, crate::specs::Pam::last_lines))]
+fn last_lines() -> &'static [u8]
+    ensures { result.now ≡ Pam.last_lines }
 {
-    let at = put(out, 0, b"P7\nWIDTH ");
-    let at = put_number(out, at, params.width() as usize, b"\nHEIGHT ");
-    put_number(
-        out,
-        at,
-        params.height() as usize,
-        b"\nDEPTH 4\nMAXVAL 255\nTUPLTYPE RGB_ALPHA\nENDHDR\n",
-    )
+    b"DEPTH 4\nMAXVAL 255\nTUPLTYPE RGB_ALPHA\nENDHDR\n"
+}
+
+// The header of a picture of the word's size.
+#[tactic(auto, using(text::proofs::Puts::puts), unfolding(text::specs::Text::ascii, text::specs::Text::line, crate::specs::Pam::header_text))]
+fn put_header(writer: &mut Writer<'_>, params: TextureParams)
+    requires { HasRoom (Pam.header_text params.0) writer.old }
+    ensures { Adds (Pam.header_text params.0) writer.old writer.new }
+{
+    writer.put(b"P7\nWIDTH ");
+    writer.put_number(params.width() as usize, b"\nHEIGHT ");
+    writer.put_number(params.height() as usize, b"\n");
+    writer.put(last_lines());
 }
 
 // How many digits a number has.
@@ -51,13 +56,23 @@ fn header_len(params: TextureParams) -> usize
     63 + digit_count(params.width() as usize) + digit_count(params.height() as usize)
 }
 
-// Writes the picture of texture n with the chosen palette to the output as a PAM image, and returns the image's length in bytes. The picture
-// is decoded to its place behind the header. An output that has no room for the header has none for a picture behind it.
+// Decodes the picture to its place behind the header, and puts the header before it. An output that has no room for the header has none for a
+// picture behind it.
+#[tactic(auto, using(crate::proofs::Images::images), unfolding(output::specs::Output::write_outcome, output::specs::Output::write_output))]
+fn image_at(block: &[u8], places: Places, out: &mut [u8]) -> Result<usize, Refusal>
+    ensures { Writes (Pam.image_of (sources_at block.now places)) out.old (result_outcome result) out.new }
+{
+    let at = header_len(places.params).min(out.len());
+    let len = picture_at(block, places, &mut out[at..])?;
+    let mut writer = Writer { out, at: 0 };
+    put_header(&mut writer, places.params);
+    Ok(writer.at + len)
+}
+
+// Writes the picture of texture n with the chosen palette to the output as a PAM image, and returns the image's length in bytes.
+#[tactic(auto, using(crate::proofs::Images::located), unfolding(output::specs::Output::write_outcome, output::specs::Output::write_output))]
 pub fn pam(block: &[u8], n: usize, choice: Option<usize>, out: &mut [u8]) -> Result<usize, Refusal>
     ensures { Writes (Pam.pam_of n choice (run read_tex block.now)) out.old (result_outcome result) out.new }
 {
-    let places = locate(block, n, choice)?;
-    let at = header_len(places.params).min(out.len());
-    let len = picture_at(block, places, &mut out[at..])?;
-    Ok(put_header(out, places.params) + len)
+    image_at(block, locate(block, n, choice)?, out)
 }
