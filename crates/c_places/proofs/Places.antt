@@ -9,10 +9,11 @@ use Rattle.errors.specs.declared.Refusal.{Refusal}
 use Rattle.scripts.specs.Script.{run}
 use Rattle.reading.specs.Tex.{read_tex}
 use Rattle.nitro.specs.Calls.{data1_of, data2_of, pal_block_of}
-use Rattle.places.specs.Sources.{places_of, pal_place_of, part_at}
+use Rattle.places.specs.Sources.{places_of, pal_place_of}
+use Rattle.layout.specs.Positions.{part_at, told}
 use Rattle.layout.specs.declared.Place.{Place}
 use Rattle.places.specs.declared.Places.{Places}
-use Rattle.places.proofs.Sources.{passed_on, located_sources, sources_data, placed_part}
+use Rattle.places.proofs.Sources.{passed_on, located_sources, located_data1, located_data2, sources_data, placed_part, placed_length}
 use Rattle.rows.specs.Rows.{place_of, Inside}
 use Rattle.rows.proofs.Entries.{place_inside}
 use Rattle.told.specs.Told.{data1, data2, pal_block}
@@ -23,13 +24,13 @@ module _ (b : List ℕ) (n : ℕ) where
     data_parts : (part_at b places.data1 ≡ data1_of n (run read_tex b)) × (part_at b places.data2 ≡ data2_of n (run read_tex b))
     data_parts = sources_data n None _ (located_sources n None b found)
 
-    pub data1_told : data1 b n ≡ result (place_of places.data1.pos (part_at b places.data1))
-    unfolding data1 ◌>>=◌
-    data1_told = rw (← found, data_parts.0)
+    pub data1_told : data1 b n ≡ result (told places.data1)
+    unfolding data1 ◌>>=◌ place_of
+    data1_told = rw (← found, ← data_parts.0, located_data1 n None b found)
 
-    pub data2_told : data2 b n ≡ result (place_of places.data2.pos (part_at b places.data2))
-    unfolding data2 ◌>>=◌
-    data2_told = rw (← found, data_parts.1)
+    pub data2_told : data2 b n ≡ result (told places.data2)
+    unfolding data2 ◌>>=◌ place_of
+    data2_told = rw (← found, ← data_parts.1, located_data2 n None b found)
 
   module _ (r : Refusal) (e : refusal_outcome r ≡ places_of n None b (run read_tex b)) where
     pub data1_refused : data1 b n ≡ refusal_outcome r
@@ -41,9 +42,9 @@ module _ (b : List ℕ) (n : ℕ) where
     data2_refused = sym (passed_on r _ _ e)
 
 module _ (b : List ℕ) where
-  pub pal_block_told : {place : Place} → result place ≡ pal_place_of b (run read_tex b) → pal_block b ≡ result (place_of place.pos (part_at b place))
-  unfolding pal_block ◌>>=◌
-  pal_block_told found = rw (← found, placed_part b found)
+  pub pal_block_told : {place : Place} → result place ≡ pal_place_of b (run read_tex b) → pal_block b ≡ result (told place)
+  unfolding pal_block ◌>>=◌ place_of
+  pal_block_told found = rw (← found, ← placed_part b found, placed_length b found)
 
   pub pal_block_refused : (r : Refusal) → refusal_outcome r ≡ pal_place_of b (run read_tex b) → pal_block b ≡ refusal_outcome r
   unfolding pal_block

@@ -1,19 +1,10 @@
 // Parts of a block, by their places.
 ghost use Rattle.std.specs.Prelude.{◌≡◌};
-ghost use Rattle.places.specs.Sources as Sources;
-ghost use Rattle.rows.specs.Rows as Rows;
 ghost use Rattle.told.specs.Told as Told;
 
 use layout::Place;
 use places::{locate, pal_place};
-use told::{place_of, tell_part};
-
-// A place as it is told: that of the bytes that it has in the block.
-fn place_in(block: &[u8], place: Place) -> Place
-    ensures { result ≡ Rows.place_of place.pos (Sources.part_at block.now place) }
-{
-    place_of(place.pos, place.part(block))
-}
+use told::tell_part;
 
 // Where in the block the data of texture n are, or a block-compressed texture's first data, and how long it is. An empty part begins at 0.
 #[tactic(auto, using(crate::proofs::Places::data1_told, crate::proofs::Places::data1_refused))]
@@ -30,7 +21,7 @@ pub extern "C" fn rasclanya_texture_data1(
     ensures len_after { len.new ≡ Told.left len.old Told.len (Told.data1 block.now n) }
     ensures needed_after { needed.new ≡ Told.needed_of (Told.data1 block.now n) }
 {
-    let place = locate(block, n, None).map(|places| place_in(block, places.data1));
+    let place = locate(block, n, None).map(|places| places.data1.told());
     tell_part(place, pos, len, needed)
 }
 
@@ -49,7 +40,7 @@ pub extern "C" fn rasclanya_texture_data2(
     ensures len_after { len.new ≡ Told.left len.old Told.len (Told.data2 block.now n) }
     ensures needed_after { needed.new ≡ Told.needed_of (Told.data2 block.now n) }
 {
-    let place = locate(block, n, None).map(|places| place_in(block, places.data2));
+    let place = locate(block, n, None).map(|places| places.data2.told());
     tell_part(place, pos, len, needed)
 }
 
@@ -67,6 +58,6 @@ pub extern "C" fn rasclanya_pal_block(
     ensures len_after { len.new ≡ Told.left len.old Told.len (Told.pal_block block.now) }
     ensures needed_after { needed.new ≡ Told.needed_of (Told.pal_block block.now) }
 {
-    let place = pal_place(block).map(|place| place_in(block, place));
+    let place = pal_place(block).map(Place::told);
     tell_part(place, pos, len, needed)
 }

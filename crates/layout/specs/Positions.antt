@@ -31,6 +31,11 @@ pal_place_at h = record { pos = h.pal_block_off; len = 8 * h.pal_block_len_shr_3
 abbrev pub part_at : (block : List ℕ) → Place → List ℕ
 part_at block place = taken_part place.pos place.len block
 
+-- A place as it is told. 01, "Modules" 5: "the part of the lent block it occupies". One without bytes begins at 0, so that every place that is told
+-- lies within its block.
+abbrev pub told : Place → Place
+told place = record { pos = cond (eqb place.len 0) 0 place.pos; len = place.len }
+
 -- The length of the list of kind k.
 abbrev pub count_of : Kind → Layout → ℕ
 count_of kind.Texture l = l.textures

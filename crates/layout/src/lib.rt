@@ -47,6 +47,16 @@ impl Place {
     {
         part_at(block, self.pos, self.len)
     }
+
+    // The place as it is told: one without bytes begins at 0.
+    pub fn told(self) -> Place
+        ensures { result ≡ Positions.told self }
+    {
+        Place {
+            pos: if self.len == 0 { 0 } else { self.pos },
+            ..self
+        }
+    }
 }
 
 impl Header {

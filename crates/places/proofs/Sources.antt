@@ -4,10 +4,13 @@ use Prim.Native.Nat.{ℕ, ◌≤◌, ◌<◌}
 use mathlib.Core.Path.{◌≡◌, refl, sym, ap, ◌∙◌}
 use mathlib.Core.Bool.{Bool, true, false}
 use mathlib.Core.List.{List}
-use lib.ListN.{length, get_or, take}
+use native.Mathlib.Omega.{arith}
+use lib.ListN.{length, get_or, take, drop, length-drop}
+use lib.Seq.{length-take-le}
 use lib.Dec.{ltb}
 use borrow.Author.Tests.{ltb-true, ltb-false}
 use Rattle.util.specs.Outcome.{Outcome, result, refusal, ◌>>=◌}
+use Rattle.util.proofs.Takes.{part_there}
 use Rattle.errors.specs.Refusal.{absent_number, refusal_outcome}
 use Rattle.errors.specs.declared.Kind.TheVariants as kinds
 use Rattle.errors.specs.declared.Refusal.{Refusal}
@@ -15,7 +18,7 @@ use Rattle.errors.proofs.Refusals.{refusal_not, refusal_any}
 use Rattle.errors.proofs.Refusals as refusals
 use Rattle.scripts.specs.Script.{Answer, short, fault, whole, run, outcome_of}
 use Rattle.reading.specs.Tex as Tex
-use Rattle.reading.specs.Tex.{Contents, header_of, read_tex}
+use Rattle.reading.specs.Tex.{Contents, header_of, read_pal_block, read_tex}
 use Rattle.nitro.specs.Calls.{entry, texture_entry, part_of, data1_of, data2_of, pal_block_of}
 use Rattle.places.specs.Sources.{Sources, chosen_of, sources_of, sources_at, places_at, places_of, part_at, pal_place_at, pal_place_of}
 use Rattle.reading.specs.Layouts.{layout_of, layout_answer, LaidOut}
@@ -24,7 +27,7 @@ use Rattle.layout.specs.declared.Header.{Header}
 use Rattle.layout.specs.declared.Layout.{Layout}
 use Rattle.layout.specs.declared.Place.{Place}
 use Rattle.places.specs.declared.Places.{Places}
-use Rattle.scripts.proofs.Runs.{whole_outcome, ended, follows_self, refused}
+use Rattle.scripts.proofs.Runs.{bytes_whole, whole_outcome, ended, follows_self, refused}
 use Rattle.reading.proofs.Readings.{finished, textures_listed, palettes_listed, pal_block_whole}
 use Rattle.nitro.proofs.Answers.{entry_in, entry_out, blank_texture, blank_palette}
 
@@ -34,6 +37,13 @@ unfolding pal_place_of pal_block_of
 placed_part b e =
     let o = ended (run read_tex b) (λ _. pal_place_at (header_of (take 60 b))) e in
     rw o.gives (sym (pal_block_whole _ b (finished b o.is).pal_block_lem) ∙ ap part_of (whole_outcome _ o.is))
+
+pub placed_length : (b : List ℕ) {place : Place} → result place ≡ pal_place_of b (run read_tex b) → length (part_at b place) ≡ place.len
+unfolding pal_place_of read_pal_block
+placed_length b e =
+    let o = ended (run read_tex b) (λ _. pal_place_at (header_of (take 60 b))) e in
+    let within = (bytes_whole _ _ b (finished b o.is).pal_block_lem).within in
+    rw (o.gives, ← part_there _ _ b within) (length-take-le _ (drop _ b) (rw length-drop (omega (arith, within))))
 
 -- the palette block's place, by the layout that was found
 pub pal_place_found : (b : List ℕ) {l : Layout} → result l ≡ layout_answer b (run read_tex b)
@@ -106,16 +116,30 @@ module _ (n : ℕ) (choice : Option ℕ) (b : List ℕ) {c : Contents} (is : run
       let t = (textures_listed header b (finished b is).textures).at n blank_texture below in
       rw (t.word, ← t.parts.first, ← t.parts.second, ← pal_block_whole header b (finished b is).pal_block_lem)
 
-  sources_at_lem : {places : Places} → result places ≡ places_of n choice b (run read_tex b)
-      → result (sources_at b places) ≡ sources_of n choice (run read_tex b)
+  -- data are as long as their places say
+  lengths_at : (p : Option ℕ)
+      → let places = places_at header this.word p in
+      (length (part_at b places.data1) ≡ places.data1.len) × (length (part_at b places.data2) ≡ places.data2.len)
+  lengths_at p =
+      let t = (textures_listed header b (finished b is).textures).at n blank_texture below in
+      (rw (t.word, ← t.parts.first, t.parts.first_length), rw (t.word, ← t.parts.second, t.parts.second_length_lem))
+
+  -- for the places that were found
+  record PartsThere (places : Places) : Type 0 where
+    sources : result (sources_at b places) ≡ sources_of n choice (run read_tex b)
+    first : length (part_at b places.data1) ≡ places.data1.len
+    second : length (part_at b places.data2) ≡ places.data2.len
+
+  parts_there : {places : Places} → result places ≡ places_of n choice b (run read_tex b) → PartsThere places
   unfolding places_of ◌>>=◌
-  sources_at_lem {places} e = go (chosen_of choice c.palettes) refl
+  parts_there {places} e = go (chosen_of choice c.palettes) refl
     where
-      go : (o : Outcome (Option ℕ)) → chosen_of choice c.palettes ≡ o → result (sources_at b places) ≡ sources_of n choice (run read_tex b)
+      go : (o : Outcome (Option ℕ)) → chosen_of choice c.palettes ≡ o → PartsThere places
       go (refusal k v) q = absurd (cc (rw (sources_by q) at e))
       go (result p) q =
           let same : places ≡ places_at header this.word p = cc (rw (sources_by q) at e) in
-          rw (same, sources_by q, parts_at p)
+          rw same
+          (record { sources = rw (sources_by q, parts_at p); first = (lengths_at p).0; second = (lengths_at p).1 })
 
 -- the same by the layout that the code has
 module _ (n : ℕ) (choice : Option ℕ) (b : List ℕ) where
@@ -151,23 +175,42 @@ pub ruleset finds = (
   no_palette,
 )
 
--- what the parts at the places that were found are
-pub located_sources : (n : ℕ) (choice : Option ℕ) (b : List ℕ) {places : Places}
-    → result places ≡ places_of n choice b (run read_tex b) → result (sources_at b places) ≡ sources_of n choice (run read_tex b)
-unfolding places_of sources_of outcome_of ◌>>=◌
-located_sources n choice b {places} e = go (run read_tex b) refl
-  where
-    no : {A : Type 0} {k v : ℕ} → ◌≡◌ {A = Outcome Places} (result places) (refusal k v) → A
-    no q = absurd (cc)
+-- where places are found, texture n was read
+record Read (n : ℕ) (b : List ℕ) : Type 0 where
+  contents : Contents
+  is : run read_tex b ≡ whole contents
+  below : n < length contents.textures
 
-    go : (a : Answer Contents) → run read_tex b ≡ a → result (sources_at b places) ≡ sources_of n choice (run read_tex b)
-    go (short w) q = no (rw q at e)
-    go (fault f) q = no (rw q at e)
-    go (whole c) q = pick (ltb n (length c.textures)) refl
-      where
-        pick : (t : Bool) → ltb n (length c.textures) ≡ t → result (sources_at b places) ≡ sources_of n choice (run read_tex b)
-        pick true h = sources_at_lem n choice b q (ltb-true n (length c.textures) h) e
-        pick false h = no (rw (q, entry_out kinds.Texture (λ (t : Tex.Texture). t) c.textures n (ltb-false n (length c.textures) h)) at e)
+module _ (n : ℕ) (choice : Option ℕ) (b : List ℕ) {places : Places} (e : result places ≡ places_of n choice b (run read_tex b)) where
+  texture_read : Read n b
+  unfolding places_of sources_of outcome_of ◌>>=◌
+  texture_read = go (run read_tex b) refl
+    where
+      no : {A : Type 0} {k v : ℕ} → ◌≡◌ {A = Outcome Places} (result places) (refusal k v) → A
+      no q = absurd (cc)
+
+      go : (a : Answer Contents) → run read_tex b ≡ a → Read n b
+      go (short w) q = no (rw q at e)
+      go (fault f) q = no (rw q at e)
+      go (whole c) q = pick (ltb n (length c.textures)) refl
+        where
+          pick : (t : Bool) → ltb n (length c.textures) ≡ t → Read n b
+          pick true h = record { contents = c; is = q; below = ltb-true n (length c.textures) h }
+          pick false h = no (rw (q, entry_out kinds.Texture (λ (t : Tex.Texture). t) c.textures n (ltb-false n (length c.textures) h)) at e)
+
+  there : PartsThere n choice b texture_read.is texture_read.below places
+  there = parts_there n choice b texture_read.is texture_read.below e
+
+  -- what the parts at the places are
+  pub located_sources : result (sources_at b places) ≡ sources_of n choice (run read_tex b)
+  located_sources = there.sources
+
+  -- and how long the data among them
+  pub located_data1 : length (part_at b places.data1) ≡ places.data1.len
+  located_data1 = there.first
+
+  pub located_data2 : length (part_at b places.data2) ≡ places.data2.len
+  located_data2 = there.second
 
 -- and the data among them
 pub sources_data : (n : ℕ) (choice : Option ℕ) (a : Answer Contents) {s : Sources} → result s ≡ sources_of n choice a

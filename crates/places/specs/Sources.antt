@@ -1,8 +1,6 @@
 -- What a picture is made from, and where in the block that is. Assumes nothing.
-use Rattle.std.specs.Prelude.{ℕ, ◌*◌, List, take, Option, None, Some}
+use Rattle.std.specs.Prelude.{ℕ, List, take, Option, None, Some}
 use Rattle.util.specs.Outcome.{Outcome, result, ◌>>=◌}
-use Rattle.util.specs.Take.{taken_part}
-use Rattle.nds.specs.Formats.{data_length, second_length}
 use Rattle.errors.specs.declared.Kind.TheVariants as kind
 use Rattle.scripts.specs.Script.{Answer, outcome_of}
 use Rattle.reading.specs.Tex.{Data, Palette, Contents, header_of}

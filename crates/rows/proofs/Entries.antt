@@ -1,5 +1,4 @@
 -- The laws of rows: by the layout that the code has, and where the parts are that a row tells of. Assumes nothing.
-use Rattle.std.specs.Prelude.{Result, IsErrAnd}
 use Prim.Native.Nat.{ℕ, ◌+◌, ◌-◌, ◌*◌, ◌≤◌, ◌<◌}
 use mathlib.Core.Path.{◌≡◌, refl, sym, ap, ◌∙◌}
 use mathlib.Core.Bool.{Bool, true, false}
@@ -15,20 +14,18 @@ use borrow.Rule.Slice.PartMut.{put_mid}
 use Rattle.util.specs.Outcome.{result}
 use Rattle.util.specs.Take.{taken_part}
 use Rattle.util.proofs.Parts.{part_of_part}
-use Rattle.output.specs.Output.{Writes, pieces}
-use Rattle.errors.specs.Refusal.{refusal_outcome, result_outcome}
+use Rattle.output.specs.Output.{pieces}
+use Rattle.errors.specs.Refusal.{refusal_outcome}
 use Rattle.errors.specs.declared.Kind.{Kind}
 use Rattle.errors.specs.declared.Kind.TheVariants as kinds
 use Rattle.errors.specs.declared.Refusal.{Refusal}
-use Rattle.errors.specs.declared.Refusal.TheVariants.{Output}
 use Rattle.errors.proofs.Refusals.{passed_on}
-use Rattle.output.proofs.Outputs.{sets_append, writes_refusal, writes_sets, writes_short, pieces_length, pieces_listed}
+use Rattle.output.proofs.Outputs.{sets_append, outcome_there, output_there, outcome_short, output_short, pieces_length, pieces_listed}
 use Rattle.scripts.specs.Script.{whole, run}
-use Rattle.info_block.specs.InfoBlock.{NameList, name_at, list_at, list_length}
+use Rattle.info_block.specs.InfoBlock.{NameList, name_at, list_length}
 use Rattle.reading.specs.Tex.{Texture, Contents, header_of, read_tex}
 use Rattle.reading.specs.Layouts.{layout_of, layout_answer}
-use Rattle.layout.specs.Positions.{count_of, list_pos}
-use Rattle.rows.specs.ByLayout.{row_length, row, texture_row, palette_row}
+use Rattle.rows.specs.ByLayout.{row_length, row, rows_by, texture_row, palette_row}
 use Rattle.rows.specs.Rows as Rows
 use Rattle.rows.specs.Rows.{place_of, Inside, name_place, data1_place, data2_place, rows_in, rows_of}
 use Rattle.layout.specs.declared.Header.{Header}
@@ -67,10 +64,6 @@ module _ (kind : Kind) (h : Header) (list : NameList) where
 pub row_room : (m n count : ℕ) {len : ℕ} → n < count → count * m ≤ len → n * m + m ≤ len
 row_room m n count h r = omega (arith, mul-le-mul_right m h, suc-mul n m, r)
 
--- the list of a layout
-abbrev list_in : Kind → (b : List ℕ) → Layout → NameList
-list_in kind b l = list_at kind (list_pos kind l.header) (count_of kind l) b
-
 -- as many numbers as the list has bytes, or fewer
 entries_few : (kind : Kind) (c : ℕ) → c * row_length kind ≤ list_length kind c
 entries_few kinds.Texture c = omega arith
@@ -78,9 +71,7 @@ entries_few kinds.Palette c = omega arith
 
 -- the rows of a finished reading, by its lists
 module _ (b : List ℕ) {c : Contents} (is : run read_tex b ≡ whole c) where
-  rows_laid : (kind : Kind)
-      → pieces (row kind (header_of (take 60 b)) (list_in kind b (layout_of b c))) (count_of kind (layout_of b c))
-      ≡ rows_in kind (header_of (take 60 b)) c
+  rows_laid : (kind : Kind) → rows_by kind b (layout_of b c) ≡ rows_in kind (header_of (take 60 b)) c
   unfolding texture_row palette_row Rows.texture_row Rows.palette_row place_of
   rows_laid kinds.Texture =
       pieces_listed (Rows.texture_row (header_of (take 60 b)) (length c.textures)) blank_texture c.textures 0 _
@@ -91,44 +82,26 @@ module _ (b : List ℕ) {c : Contents} (is : run read_tex b ≡ whole c) where
       pieces_listed (Rows.palette_row (header_of (take 60 b)) (length c.palettes)) blank_palette c.palettes 0 _
       (λ n below. rw (zero-add, (palettes_listed (header_of (take 60 b)) b (finished b is).palettes).at n blank_palette below))
 
--- those of a block that was read
-rows_found : (kind : Kind) (b : List ℕ) {l : Layout} → result l ≡ layout_answer b (run read_tex b)
-    → result (pieces (row kind l.header (list_in kind b l)) (count_of kind l)) ≡ rows_of kind b (run read_tex b)
-unfolding layout_answer rows_of
-rows_found kind b e =
-    let o = ended (run read_tex b) (layout_of b) e in
-    rw o.gives (ap result (rows_laid b o.is kind) ∙ whole_outcome _ o.is)
-
--- what the code does with them: they are written where there is room, and are not where there is none
-module _ (kind : Kind) (b : List ℕ) (entry : List ℕ) where
-  pub rows_refused : (answer : Result ℕ Refusal) (r : Refusal) → IsErrAnd answer (λ y. y ≡ r) → refusal_outcome r ≡ layout_answer b (run read_tex b)
-      → Writes (rows_of kind b (run read_tex b)) entry (result_outcome answer) entry
-  unfolding layout_answer rows_of
-  rows_refused answer r is e = rw (passed_on answer r is) (writes_refusal r entry (refused _ _ (follows_self _) _ _ r e))
-
-  -- by the list that the code has of the block
-  module _ {l : Layout} (laid : result l ≡ layout_answer b (run read_tex b)) {block : List ℕ} (same : block ≡ b)
-      {k : Kind} (of_kind : k ≡ kind) {list : NameList} (is : list ≡ list_in kind block l) where
-    found : result (pieces (row k l.header list) list.count) ≡ rows_of kind b (run read_tex b)
-    found = rw (of_kind, is, same) (rows_found kind b laid)
-
-    pub rows_written : list.count * row_length kind ≤ length entry
-        → Writes (rows_of kind b (run read_tex b)) entry (result (list.count * row_length kind))
-        (sets entry 0 (pieces (row k l.header list) list.count))
-    rows_written h =
-        rw (← found, ← of_kind, ← rows_length k l.header list list.count)
-        (writes_sets (pieces (row k l.header list) list.count) entry (rw (rows_length, of_kind) h))
-
-    pub rows_unwritten : length entry < list.count * row_length kind → Writes (rows_of kind b (run read_tex b)) entry (refusal_outcome Output) entry
-    rows_unwritten h =
-        rw (← found) (writes_short (pieces (row k l.header list) list.count) entry (rw (rows_length, of_kind) h))
-
 -- a list has as many numbers in its rows as bytes, or fewer
 pub rows_few : (kind : Kind) (c : ℕ) {n : ℕ} → n ≡ list_length kind c → c * row_length kind ≤ n
 rows_few kind c e = rw e (entries_few kind c)
 
 -- for the function that writes them
-pub ruleset writes_rows = (rows_few, rows_written, rows_unwritten)
+pub ruleset writes_rows = (rows_few, rows_length, outcome_there, output_there, outcome_short, output_short)
+
+-- what the call makes, by the layout of a block that was read
+module _ (kind : Kind) (b : List ℕ) where
+  pub rows_refused : (r : Refusal) → refusal_outcome r ≡ layout_answer b (run read_tex b) → refusal_outcome r ≡ rows_of kind b (run read_tex b)
+  unfolding layout_answer rows_of
+  rows_refused r e = refused _ _ (follows_self _) _ _ r e
+
+  pub rows_found : {l : Layout} → result l ≡ layout_answer b (run read_tex b) → result (rows_by kind b l) ≡ rows_of kind b (run read_tex b)
+  unfolding layout_answer rows_of
+  rows_found e =
+      let o = ended (run read_tex b) (layout_of b) e in
+      rw o.gives (ap result (rows_laid b o.is kind) ∙ whole_outcome _ o.is)
+
+pub ruleset makes_rows = (passed_on, rows_refused, rows_found)
 
 -- a part that was taken, by its place
 pub place_inside : (b : List ℕ) (p n : ℕ) → Inside b (taken_part p n b) (place_of p (taken_part p n b))

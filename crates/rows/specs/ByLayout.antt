@@ -1,13 +1,14 @@
 -- The rows by the header and a list, as the private functions put them; no public contract cites it. Assumes nothing.
 use Rattle.std.specs.Prelude.{ℕ, ◌+◌, ◌*◌, List, [], ◌∷◌, None}
+use Rattle.output.specs.Output.{pieces}
 use Rattle.errors.specs.declared.Kind.{Kind}
 use Rattle.errors.specs.declared.Kind.TheVariants as kind
-use Rattle.info_block.specs.InfoBlock.{NameList, name_at, entry_number}
-use Rattle.layout.specs.Positions.{list_pos}
+use Rattle.info_block.specs.InfoBlock.{NameList, list_at, name_at, entry_number}
+use Rattle.layout.specs.Positions.{list_pos, count_of, told}
 use Rattle.layout.specs.declared.Header.{Header}
+use Rattle.layout.specs.declared.Layout.{Layout}
 use Rattle.places.specs.Sources.{places_at}
 use Rattle.places.specs.declared.Places.{Places}
-use Rattle.rows.specs.Rows.{told_pos}
 
 -- Where name n of a list of c entries begins in the block.
 abbrev pub name_pos : Kind → Header → (c n : ℕ) → ℕ
@@ -17,9 +18,9 @@ abbrev pub places_row : (name : ℕ) → Places → List ℕ
 places_row name places =
     name
     ∷ places.params.0
-    ∷ told_pos places.data1.pos places.data1.len
+    ∷ (told places.data1).pos
     ∷ places.data1.len
-    ∷ told_pos places.data2.pos places.data2.len
+    ∷ (told places.data2).pos
     ∷ places.data2.len
     ∷ []
 
@@ -38,3 +39,10 @@ row kind.Palette = palette_row kind.Palette
 abbrev pub row_length : Kind → ℕ
 row_length kind.Texture = 6
 row_length kind.Palette = 2
+
+-- All rows of a list, one behind the other; and so of a layout's list of kind k.
+abbrev pub rows : Kind → Header → NameList → List ℕ
+rows k h list = pieces (row k h list) list.count
+
+abbrev pub rows_by : Kind → (block : List ℕ) → Layout → List ℕ
+rows_by k block l = rows k l.header (list_at k (list_pos k l.header) (count_of k l) block)

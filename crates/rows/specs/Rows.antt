@@ -1,6 +1,6 @@
 -- All textures, or all palettes, of one reading: a row of numbers for each, which goes to a lent output. Parts of the block are told by
 -- where they are. Assumes nothing.
-use Rattle.std.specs.Prelude.{ℕ, ◌+◌, ◌≤◌, ◌≡◌, cond, List, [], ◌∷◌, length, take, drop, eqb}
+use Rattle.std.specs.Prelude.{ℕ, ◌+◌, ◌≤◌, ◌≡◌, List, [], ◌∷◌, length, take, drop}
 use Rattle.util.specs.Outcome.{Outcome, result}
 use Rattle.output.specs.Output.{pieces_from}
 use Rattle.errors.specs.declared.Kind.{Kind}
@@ -10,15 +10,12 @@ use Rattle.info_block.specs.InfoBlock.{name_at}
 use Rattle.reading.specs.Tex.{Texture, Palette, Contents, header_of}
 use Rattle.layout.specs.Positions.{data_at, second_at}
 use Rattle.layout.specs.declared.Header.{Header}
+use Rattle.layout.specs.Positions.{told}
 use Rattle.layout.specs.declared.Place.{Place}
 
--- A part by where it begins in the block, and its length. 01, "Modules" 5: "the part of the lent block it occupies". A part without bytes begins
--- at 0, so that every part that is told lies within its block.
-abbrev pub told_pos : (pos len : ℕ) → ℕ
-told_pos pos len = cond (eqb len 0) 0 pos
-
+-- A part by where it begins in the block, and its length.
 unfoldable pub place_of : (pos : ℕ) (part : List ℕ) → Place
-place_of pos part = record { pos = told_pos pos (length part); len = length part }
+place_of pos part = told (record { pos = pos; len = length part })
 
 -- A place lies within the block, and has the part. The laws `texture_row_lem` and `palette_row_lem` of proofs/Entries.antt say so of every place in a row.
 pub record Inside (block part : List ℕ) (place : Place) : Type 0 where

@@ -5,7 +5,8 @@
 ghost use Rattle.std.specs.Prelude.{◌≡◌, ◌+◌, ◌*◌, ◌<◌, ◌≤◌, length};
 ghost use Rattle.std.proofs.lemmas.List.Edits.{sets};
 ghost use Rattle.errors.specs.Refusal.{result_outcome};
-ghost use Rattle.output.specs.Output.{Writes, pieces};
+ghost use Rattle.util.specs.Outcome.{result as answered};
+ghost use Rattle.output.specs.Output.{Writes};
 ghost use Rattle.scripts.specs.Script.{run};
 ghost use Rattle.info_block.specs.Lists.{listed};
 ghost use Rattle.reading.specs.Tex.{read_tex};
@@ -14,7 +15,7 @@ ghost use Rattle.rows.specs.Rows as Rows;
 
 use errors::{Kind, Refusal};
 use info_block::name_list::{Entry, NameList};
-use layout::{Header, Place, off_at, params_at};
+use layout::{Header, off_at, params_at};
 use places::places_of;
 use reading::tex::Tex;
 
@@ -26,13 +27,6 @@ fn row_len(kind: Kind) -> usize
         Kind::Texture => 6,
         Kind::Palette => 2,
     }
-}
-
-// Where a part is told to begin: one without bytes at 0.
-fn told_pos(place: Place) -> usize
-    ensures { result ≡ Rows.told_pos place.pos place.len }
-{
-    if place.len == 0 { 0 } else { place.pos }
 }
 
 // Where an entry's name begins in the block.
@@ -51,9 +45,9 @@ fn texture_row(header: Header, texture: Entry) -> [usize; 6]
     [
         name_pos(header, texture),
         places.params.0 as usize,
-        told_pos(places.data1),
+        places.data1.told().pos,
         places.data1.len,
-        told_pos(places.data2),
+        places.data2.told().pos,
         places.data2.len,
     ]
 }
@@ -91,7 +85,7 @@ fn put_entry(rows: &mut [usize], at: usize, header: Header, entry: Entry)
 #[tactic(auto, using(crate::proofs::Entries::row_behind), unfolding(output::specs::Output::pieces))]
 fn put_rows(rows: &mut [usize], header: Header, list: NameList)
     requires { list.count * ByLayout.row_length list.kind ≤ length rows.old }
-    ensures { rows.new ≡ sets rows.old 0 (pieces (ByLayout.row list.entry.kind header (listed list.entry)) list.entry.count) }
+    ensures { rows.new ≡ sets rows.old 0 (ByLayout.rows list.entry.kind header (listed list.entry)) }
 {
     let len = row_len(list.kind);
     for n in 0..list.count {
@@ -99,14 +93,11 @@ fn put_rows(rows: &mut [usize], header: Header, list: NameList)
     }
 }
 
-// Writes a row of numbers for each texture, or for each palette, and answers with how many numbers that are. All are of one reading. A
-// texture has six: where its name begins, its word, where its data begin and how long they are, and the same of its second data. A palette
-// has two: where its name begins, and its offset in bytes.
+// Writes the rows of a block that was read, and answers with how many numbers they have.
 #[tactic(auto, using(crate::proofs::Entries::writes_rows))]
-pub fn rows(block: &[u8], kind: Kind, out: &mut [usize]) -> Result<usize, Refusal>
-    ensures { Writes (Rows.rows_of kind block.now (run read_tex block.now)) out.old (result_outcome result) out.new }
+fn rows_by(tex: Tex, kind: Kind, out: &mut [usize]) -> Result<usize, Refusal>
+    ensures { Writes (answered (ByLayout.rows_by kind tex.entry.block.now tex.entry.layout)) out.old (result_outcome result) out.new }
 {
-    let tex = Tex::read(block)?;
     let list = tex.list(kind);
     let len = list.count * row_len(kind);
     if out.len() < len {
@@ -114,4 +105,14 @@ pub fn rows(block: &[u8], kind: Kind, out: &mut [usize]) -> Result<usize, Refusa
     }
     put_rows(out, tex.layout.header, list);
     Ok(len)
+}
+
+// Writes a row of numbers for each texture, or for each palette, and answers with how many numbers that are. All are of one reading. A
+// texture has six: where its name begins, its word, where its data begin and how long they are, and the same of its second data. A palette
+// has two: where its name begins, and its offset in bytes.
+#[tactic(auto, using(crate::proofs::Entries::makes_rows), unfolding(output::specs::Output::write_outcome, output::specs::Output::write_output))]
+pub fn rows(block: &[u8], kind: Kind, out: &mut [usize]) -> Result<usize, Refusal>
+    ensures { Writes (Rows.rows_of kind block.now (run read_tex block.now)) out.old (result_outcome result) out.new }
+{
+    rows_by(Tex::read(block)?, kind, out)
 }

@@ -4,7 +4,6 @@
 
 ghost use Rattle.std.specs.Prelude.{◌≡◌};
 ghost use Rattle.errors.specs.Refusal.{result_outcome};
-ghost use Rattle.rows.specs.Rows as Rows;
 ghost use Rattle.told.specs.Told as Told;
 
 use errors::Refusal;
@@ -94,17 +93,6 @@ pub fn tell_counts(
         *palettes = counts.palettes;
     }
     tell(answer, needed)
-}
-
-// The place of a part that begins at pos: one without bytes is told at 0.
-#[tactic(auto, unfolding(rows::specs::Rows::place_of))]
-pub fn place_of(pos: usize, part: &[u8]) -> Place
-    ensures { result ≡ Rows.place_of pos part.now }
-{
-    Place {
-        pos: if part.is_empty() { 0 } else { pos },
-        len: part.len(),
-    }
 }
 
 // An answer with a part's place.
