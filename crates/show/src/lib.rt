@@ -16,7 +16,7 @@ pub const MAX_BLOCK: usize = 3145728;
 pub const MAX_PAM: usize = 4194375;
 
 // Why no image is shown of a file.
-#[derive(Clone, Copy)]
+#[derive(Clone, Copy, Debug, PartialEq, Eq)]
 pub enum Unshown {
     Refused(Refusal),
     // The file is too long to be read.

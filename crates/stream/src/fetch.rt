@@ -8,7 +8,7 @@ ghost use Rattle.stream.specs.Fetch as Fetch;
 use crate::shortness::shortness;
 use errors::Refusal;
 
-#[derive(Clone, Copy)]
+#[derive(Clone, Copy, Debug, PartialEq, Eq)]
 pub struct Fetched<T> {
     // The last answer.
     pub answer: Result<T, Refusal>,
