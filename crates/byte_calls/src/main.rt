@@ -17,10 +17,10 @@ fn number(n: u64) {
 // A length that exceeds 64 bits is written as 2^64 and what is left.
 fn short(needed: Needed) {
     text(b"short ");
-    if needed.carry {
+    if needed.0 >> 64 != 0 {
         text(b"2^64 + ");
     }
-    number(needed.low as u64);
+    number((needed.0 & u128::from(u64::MAX)) as u64);
 }
 
 // Writes bits lo to hi - 1 of a number, behind the name of its type.
@@ -29,13 +29,14 @@ fn field<T: Unsigned>(name: &[u8], x: T, lo: u32, hi: u32) {
     number(u64::from(bits(x, lo, hi).into()));
 }
 
-// Whether the take passes, and the part that it hands out.
+// Whether the take passes, with the end of its bytes; and the part that is there.
+#[tactic(auto, using(util::proofs::Takes::taken_there))]
 fn taken(buf: &[u8], pos: usize, n: usize) {
     text(b"take ");
     match take_at(buf, pos, n) {
-        Ok(end) => {
+        Ok(_) => {
             text(b"whole ");
-            number(end as u64);
+            number((pos + n) as u64);
         }
         Err(needed) => short(needed),
     }
@@ -45,10 +46,10 @@ fn taken(buf: &[u8], pos: usize, n: usize) {
 }
 
 // Writes the answer of a call that reads a number.
-fn peeked(answer: Result<u32, Needed>) {
+fn peeked<T: Unsigned>(answer: Result<T, Needed>) {
     text(b"peek ");
     match answer {
-        Ok(n) => number(n as u64),
+        Ok(n) => number(u64::from(n.into())),
         Err(needed) => short(needed),
     }
 }

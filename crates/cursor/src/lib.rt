@@ -18,13 +18,13 @@ pub struct Cur<'a> {
 
 impl<'a> Cur<'a> {
     // The n-th number of 2 bytes from the position on, counted from 0. The position stays.
-    #[tactic(auto, using(util::proofs::Takes::passes, util::proofs::Takes::took, util::proofs::Takes::same_short))]
-    pub fn nth_u16(self, n: u32) -> Result<u32, Needed>
+    #[tactic(auto, using(util::proofs::Takes::taken_length, util::proofs::Takes::number_taken, util::proofs::Takes::same_short))]
+    pub fn nth_u16(self, n: u32) -> Result<u16, Needed>
         ensures { taken_outcome result ≡ peek_of 2 (self.entry.pos + 2 * n) (bytes self.entry) }
     {
         let before = 2 * (n as usize);
-        take_at(self.buf, self.pos, before + 2)?;
-        Ok(u32::from(u16::view(self.buf, self.pos + before)))
+        let numbers = take_at(self.buf, self.pos, before + 2)?;
+        Ok(u16::view(numbers, before))
     }
 
     // The n bytes at the position, which moves behind them, as the part of the slice that they occupy. A short take hands out the empty part
@@ -34,18 +34,17 @@ impl<'a> Cur<'a> {
         ensures { (result.now ≡ taken_part self.old.pos n (bytes self.old)) × (self.new ≡ taken_on self.old n) }
     {
         match take_at(self.buf, self.pos, n) {
-            Ok(end) => {
-                let part = &self.buf[self.pos..end];
-                self.pos = end;
+            Ok(part) => {
+                self.pos += n;
                 part
             }
-            Err(_) => &self.buf[..0],
+            Err(_) => &[],
         }
     }
 }
 
 // The n-th number of 2 bytes from pos on, counted from 0.
-pub fn nth_u16(buf: &[u8], pos: usize, n: u32) -> Result<u32, Needed>
+pub fn nth_u16(buf: &[u8], pos: usize, n: u32) -> Result<u16, Needed>
     ensures { taken_outcome result ≡ peek_of 2 (pos + 2 * n) buf.now }
 {
     Cur { buf, pos }.nth_u16(n)

@@ -1,5 +1,6 @@
 // A name list that a block has, and its entries.
 ghost use Rattle.std.specs.Prelude.{◌≡◌, ◌+◌, ◌*◌, ◌<◌, ◌≤◌, ◌^◌, length, take as first_bytes, drop};
+ghost use Rattle.info_block.specs.InfoBlock as InfoBlock;
 ghost use Rattle.info_block.specs.InfoBlock.{datum_bytes, list_length};
 
 use errors::Kind;
@@ -16,14 +17,20 @@ pub(crate) fn datum_size(kind: Kind) -> usize
     }
 }
 
+// Where name n of a list of count entries begins, from the list's start. Behind the last name the list ends.
+pub(crate) fn name_at(kind: Kind, count: usize, n: usize) -> usize
+    requires { InfoBlock.name_at kind count n < 2 ^ 64 }
+    ensures { result ≡ InfoBlock.name_at kind count n }
+{
+    16 + 4 * count + datum_size(kind) * count + 16 * n
+}
+
 // The name of the 16 bytes at pos.
 fn name_of(bytes: &[u8], pos: usize) -> Name
     requires { pos + 16 ≤ length bytes.now }
     ensures { result.0 ≡ first_bytes 16 (drop pos bytes.now) }
 {
-    let mut name = [0u8; 16];
-    name.copy_from_slice(&bytes[pos..pos + 16]);
-    Name(name)
+    Name(bytes[pos..pos + 16].try_into().unwrap())
 }
 
 // A list of count entries, whole.
@@ -33,6 +40,8 @@ pub struct NameList<'a> {
     pub count: usize,
     pub bytes: &'a [u8],
     pub ghost whole: { length bytes.now ≡ list_length kind count },
+    // No slice is longer.
+    pub ghost fits: { list_length kind count < 2 ^ 63 },
 }
 
 // An entry of a list, by its number.
@@ -44,7 +53,7 @@ pub struct Entry<'a> {
 }
 
 impl<'a> NameList<'a> {
-    ghost use Rattle.info_block.specs.InfoBlock.{list_at, name_at, datum_at};
+    ghost use Rattle.info_block.specs.InfoBlock.{list_at};
     ghost use Rattle.info_block.specs.Lists.{listed};
 
     // The list of count entries at pos.
@@ -53,29 +62,12 @@ impl<'a> NameList<'a> {
         ensures value { listed result ≡ list_at kind pos count block.now }
         ensures of_kind { result.kind ≡ kind }
     {
-        let len = 16 + 4 * count + datum_size(kind) * count + 16 * count;
+        let len = name_at(kind, count, count);
         NameList {
             kind,
             count,
             bytes: &block[pos..pos + len],
         }
-    }
-
-    // Where name n begins, from the list's start.
-    fn name_pos(self, n: usize) -> usize
-        requires { n < self.count }
-        ensures { (result ≡ name_at self.entry.kind self.entry.count n) × (result < 2 ^ 63) }
-    {
-        16 + 4 * self.count + datum_size(self.kind) * self.count + 16 * n
-    }
-
-    // Where datum n begins, from the list's start.
-    #[tactic(auto, using(crate::proofs::Lists::datum_within))]
-    fn datum_pos(self, n: usize) -> usize
-        requires { n < self.count }
-        ensures { (result ≡ datum_at self.entry.kind self.entry.count n) × (result + 4 ≤ length self.entry.bytes.now) }
-    {
-        16 + 4 * self.count + datum_size(self.kind) * n
     }
 
     // Entry n.
@@ -88,14 +80,22 @@ impl<'a> NameList<'a> {
 }
 
 impl<'a> Entry<'a> {
-    ghost use Rattle.info_block.specs.InfoBlock.{name_at, entry_name, entry_number};
+    ghost use Rattle.info_block.specs.InfoBlock.{datum_at, entry_name, entry_number};
     ghost use Rattle.info_block.specs.Lists.{listed};
 
     // Where its name begins, from the list's start.
     pub fn name_pos(self) -> usize
-        ensures { (result ≡ name_at self.entry.list.kind self.entry.list.count self.entry.n) × (result < 2 ^ 63) }
+        ensures { (result ≡ InfoBlock.name_at self.entry.list.kind self.entry.list.count self.entry.n) × (result < 2 ^ 63) }
     {
-        self.list.name_pos(self.n)
+        name_at(self.list.kind, self.list.count, self.n)
+    }
+
+    // Where its datum begins, from the list's start.
+    #[tactic(auto, using(crate::proofs::Lists::datum_within))]
+    fn datum_pos(self) -> usize
+        ensures { (result ≡ datum_at self.entry.list.kind self.entry.list.count self.entry.n) × (result + 4 ≤ length self.entry.list.bytes.now) }
+    {
+        16 + 4 * self.list.count + datum_size(self.list.kind) * self.n
     }
 
     // Its name.
@@ -109,6 +109,6 @@ impl<'a> Entry<'a> {
     pub fn number<T: Unsigned>(self) -> T
         ensures { T.number result ≡ entry_number self.entry.list.kind T.SIZE (listed self.entry.list) self.entry.n }
     {
-        T::view(self.list.bytes, self.list.datum_pos(self.n))
+        T::view(self.list.bytes, self.datum_pos())
     }
 }

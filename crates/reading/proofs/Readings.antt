@@ -7,13 +7,11 @@ use native.Mathlib.Nat.{zero-add}
 use native.Mathlib.Numerals.{add-one}
 use native.Mathlib.Omega.{arith}
 use lib.ListN.{length, take, drop, get_or, length-drop}
-use lib.Seq.{get_or-take, length-take-le}
-use lib.Dec.{eqb, lit<}
+use lib.Seq.{length-take-le}
+use lib.Dec.{eqb}
 use borrow.Author.Tests.{eq-eqb, ne_eqb, eqb-true, eqb-false}
 use Rattle.std.specs.List.{starts_with}
-use Rattle.util.specs.Number.{number_at}
 use Rattle.util.specs.Outcome.{Outcome, result}
-use Rattle.util.proofs.Numbers.{number_in_part}
 use Rattle.util.specs.Take.{taken_part}
 use Rattle.util.proofs.Takes.{part_there, part_empty}
 use Rattle.nds.specs.Params.{format}
@@ -24,7 +22,7 @@ use Rattle.errors.specs.declared.Refusal.{Refusal}
 use Rattle.errors.specs.declared.Refusal.TheVariants.{Stamp}
 use Rattle.errors.proofs.Refusals as refusals
 use Rattle.errors.specs.declared.Kind.TheVariants as kinds
-use Rattle.scripts.specs.Script.{done, fault, whole, run, outcome_of, passing, bytes_at, each, each_from}
+use Rattle.scripts.specs.Script.{done, whole, run, outcome_of, passing, bytes_at, each, each_from}
 use Rattle.info_block.specs.InfoBlock.{NameList, list_at, list_length, name_list, entry_name, entry_number}
 use Rattle.reading.specs.Tex as Tex
 use Rattle.reading.specs.Tex.{Contents, has_stamp, header_of, palette_at, read_header, read_pal_block, read_second, read_data}
@@ -32,15 +30,10 @@ use Rattle.layout.specs.Positions.{data_at, second_at}
 use Rattle.reading.specs.Tex.{read_texture, read_textures, read_palettes, read_tex}
 use Rattle.reading.specs.Layouts.{counting, each_texture, layout_answer}
 use Rattle.layout.specs.declared.Header.{Header}
-use Rattle.scripts.proofs.Runs.{take_within, whole_outcome, fault_outcome, ended, refused, each_turn, each_none, each_follows, follows_trans}
+use Rattle.scripts.proofs.Runs.{taken_whole, take_within, take_length, whole_outcome, fault_outcome, ended, refused, each_turn, each_none, each_follows, follows_trans}
 use Rattle.scripts.proofs.Runs.{onward, both, bytes_in, bytes_whole, expect_met, expect_failed, expect_held, expected, outcome_map, outcome_bind}
-use Rattle.scripts.proofs.Runs.{outcome_same, each_count, each_done, each_length, each_at, Follows, follows_bind, follows_onward}
+use Rattle.scripts.proofs.Runs.{outcome_same, each_count, each_done, each_length, each_at, Follows, follows_bind, follows_self, follows_onward}
 use Rattle.info_block.proofs.Lists.{name_listed, list_read}
-
--- the stamp, where it stands in the block
-pub stamp_there : (b : List ℕ) → has_stamp (take 60 b) ≡ has_stamp b
-stamp_there b =
-    rw (get_or-take 60 b 0 0 (lit< tt), get_or-take 60 b 1 0 (lit< tt), get_or-take 60 b 2 0 (lit< tt), get_or-take 60 b 3 0 (lit< tt))
 
 -- the stamp as the first four bytes
 eqb_turned : (a b : ℕ) → eqb a b ≡ eqb b a
@@ -57,10 +50,9 @@ all_four true true false s = refl
 all_four true false r s = refl
 all_four false q r s = refl
 
-pub stamp_starts : (b : List ℕ) → 60 ≤ length b → starts_with eqb b (84 ∷ 69 ∷ 88 ∷ 48 ∷ []) ≡ has_stamp (take 60 b)
+pub stamp_starts : (head : List ℕ) → 4 ≤ length head → starts_with eqb head (84 ∷ 69 ∷ 88 ∷ 48 ∷ []) ≡ has_stamp head
 stamp_starts (t ∷ e ∷ x ∷ n ∷ later) h =
-    rw (stamp_there (t ∷ e ∷ x ∷ n ∷ later), eqb_turned 84 t, eqb_turned 69 e, eqb_turned 88 x, eqb_turned 48 n)
-    (all_four (eqb t 84) (eqb e 69) (eqb x 88) (eqb n 48))
+    rw (eqb_turned 84 t, eqb_turned 69 e, eqb_turned 88 x, eqb_turned 48 n) (all_four (eqb t 84) (eqb e 69) (eqb x 88) (eqb n 48))
 stamp_starts (t ∷ e ∷ x ∷ []) h = absurd (omega arith)
 stamp_starts (t ∷ e ∷ []) h = absurd (omega arith)
 stamp_starts (t ∷ []) h = absurd (omega arith)
@@ -71,15 +63,6 @@ module _ (b : List ℕ) where
   pub header_follows : Follows (run (bytes_at 0 60) b) (run read_header b)
   unfolding read_header
   header_follows = follows_bind (bytes_at 0 60) _ b
-
-  module _ (within : 60 ≤ length b) where
-    pub stamp_bad : has_stamp (take 60 b) ≡ false → run read_header b ≡ fault bad_stamp
-    unfolding read_header
-    stamp_bad e = onward (bytes_at 0 60) _ b (bytes_in 0 60 b within) ∙ expect_failed _ bad_stamp _ b e
-
-    pub header_read : has_stamp (take 60 b) ≡ true → run read_header b ≡ whole (header_of (take 60 b))
-    unfolding read_header run
-    header_read e = onward (bytes_at 0 60) _ b (bytes_in 0 60 b within) ∙ expect_met _ bad_stamp _ b e
 
   pub header_there : {h : Header} → run read_header b ≡ whole h → (60 ≤ length b) × (has_stamp (take 60 b) ≡ true)
   unfolding read_header
@@ -313,33 +296,40 @@ pal_block_whole h b e =
 
 -- the header
 module _ (b : List ℕ) where
-  pub field_there : (size p : ℕ) → p + size ≤ 60 → number_at size p (take 60 b) ≡ number_at size p b
-  field_there size p h = number_in_part size p 0 60 b h ∙ ap (λ (q : ℕ). number_at size q b) (omega arith)
+  pub header_refused : (r : Refusal) → refusal_outcome r ≡ outcome_of (run (bytes_at 0 60) b) result
+      → refusal_outcome r ≡ outcome_of (run read_header b) result
+  header_refused r e = refused _ _ (header_follows b) (λ head. head) _ r e
 
-  pub header_refused : (r : Refusal) → refusal_outcome r ≡ passing (bytes_at 0 60) b → refusal_outcome r ≡ outcome_of (run read_header b) result
-  header_refused r e = refused _ _ (header_follows b) _ _ r e
+  module _ {head : List ℕ} (taken : result head ≡ outcome_of (run (bytes_at 0 60) b) result) where
+    pub stamp_refused : has_stamp head ≡ false → refusal_outcome Stamp ≡ outcome_of (run read_header b) result
+    unfolding read_header
+    stamp_refused e = fault_outcome result (onward (bytes_at 0 60) _ b (taken_whole 0 60 b taken) ∙ expect_failed _ bad_stamp _ b e)
 
-  pub stamp_refused : 60 ≤ length b → has_stamp (take 60 b) ≡ false → refusal_outcome Stamp ≡ outcome_of (run read_header b) result
-  stamp_refused h e = fault_outcome result (stamp_bad b h e)
-
-  pub header_found : 60 ≤ length b → has_stamp (take 60 b) ≡ true → result (header_of (take 60 b)) ≡ outcome_of (run read_header b) result
-  header_found h e = whole_outcome result (header_read b h e)
+    pub header_found : has_stamp head ≡ true → result (header_of head) ≡ outcome_of (run read_header b) result
+    unfolding read_header run
+    header_found e = whole_outcome result (onward (bytes_at 0 60) _ b (taken_whole 0 60 b taken) ∙ expect_met _ bad_stamp _ b e)
 
 -- data
 module _ (h : Header) (w : ℕ) (b : List ℕ) where
-  pub first_refused : (p n : ℕ) → p ≡ data_at h w → n ≡ data_length w → (r : Refusal) → refusal_outcome r ≡ passing (bytes_at p n) b
+  pub first_refused : (p n : ℕ) → p ≡ data_at h w → n ≡ data_length w → (r : Refusal) → refusal_outcome r ≡ outcome_of (run (bytes_at p n) b) result
       → refusal_outcome r ≡ passing (read_data h w) b
-  first_refused p n s t r e = refused _ _ (data_follows h w b) _ _ r (rw (s, t) at e)
+  first_refused p n s t r e = refused _ _ (data_follows h w b) (λ data1. data1) _ r (rw (s, t) at e)
 
-  pub first_passed : (p n : ℕ) → p ≡ data_at h w → n ≡ data_length w → result (tt {0}) ≡ passing (bytes_at p n) b
-      → passing (read_second h w) b ≡ passing (read_data h w) b
-  first_passed p n s t e = first_taken h w b (tt {0}) (take_within _ _ _ (rw (s, t) at e))
+  module _ (p n : ℕ) (s : p ≡ data_at h w) (t : n ≡ data_length w) {data1 : List ℕ} (first : result data1 ≡ outcome_of (run (bytes_at p n) b) result) where
+    same : passing (read_second h w) b ≡ passing (read_data h w) b
+    same = first_taken h w b (tt {0}) (take_within _ _ _ (rw (s, t) at first))
 
-  pub second_asked : format w ≡ 5 → passing (bytes_at (second_at h w) (second_length w)) b ≡ passing (read_second h w) b
-  second_asked e = ap (λ s. passing s b) (second_taken h w b e)
+    pub second_refused : (r : Refusal) → refusal_outcome r ≡ outcome_of (run (read_second h w) b) result → refusal_outcome r ≡ passing (read_data h w) b
+    second_refused r e = refused _ _ (follows_self (run (read_second h w) b)) (λ data2. data2) _ r e ∙ same
 
-  pub second_left : (format w ≡ 5 → ⊥) → result (tt {0}) ≡ passing (read_second h w) b
-  second_left e = whole_outcome _ (second_none h w b e)
+    pub both_taken : {data2 : List ℕ} → result data2 ≡ outcome_of (run (read_second h w) b) result → result (tt {0}) ≡ passing (read_data h w) b
+    both_taken e = whole_outcome (λ _. result (tt {0})) (ended _ (λ data2. data2) e).is ∙ same
+
+  pub second_asked : format w ≡ 5 → outcome_of (run (bytes_at (second_at h w) (second_length w)) b) result ≡ outcome_of (run (read_second h w) b) result
+  second_asked e = ap (λ s. outcome_of (run s b) result) (second_taken h w b e)
+
+  pub second_left : (format w ≡ 5 → ⊥) → result [] ≡ outcome_of (run (read_second h w) b) result
+  second_left e = whole_outcome result (second_none h w b e)
 
 -- the texture list
 module _ (h : Header) (b : List ℕ) where
@@ -400,22 +390,23 @@ module _ (b : List ℕ) where
     header_is : run read_header b ≡ whole h
     header_is = let e = ended _ (λ h. h) first in e.is ∙ ap whole (sym e.gives)
 
-    pub pal_block_refuses : (r : Refusal) → refusal_outcome r ≡ passing (read_pal_block h) b → refusal_outcome r ≡ layout_answer b (run read_tex b)
+    pub pal_block_refuses : (r : Refusal) → refusal_outcome r ≡ outcome_of (run (read_pal_block h) b) result
+        → refusal_outcome r ≡ layout_answer b (run read_tex b)
     unfolding layout_answer
-    pal_block_refuses r e = refused _ _ (read_pal_block_follows b header_is) _ _ r e
+    pal_block_refuses r e = refused _ _ (read_pal_block_follows b header_is) (λ part. part) _ r e
 
-    module _ (second : result (tt {0}) ≡ passing (read_pal_block h) b) where
+    module _ {pal_block : List ℕ} (second : result pal_block ≡ outcome_of (run (read_pal_block h) b) result) where
       pub textures_refuse : (r : Refusal) → refusal_outcome r ≡ counting (read_textures h) b → refusal_outcome r ≡ layout_answer b (run read_tex b)
       unfolding layout_answer
       textures_refuse r e =
-          let block = ended (run (read_pal_block h) b) (λ _. tt {0}) second in
+          let block = ended (run (read_pal_block h) b) (λ part. part) second in
           refused _ _ (read_textures_follows b header_is block.is) _ _ r e
 
       module _ {textures : ℕ} (third : result textures ≡ counting (read_textures h) b) where
         pub palettes_refuse : (r : Refusal) → refusal_outcome r ≡ counting (read_palettes h) b → refusal_outcome r ≡ layout_answer b (run read_tex b)
         unfolding layout_answer
         palettes_refuse r e =
-            let block = ended (run (read_pal_block h) b) (λ _. tt {0}) second in
+            let block = ended (run (read_pal_block h) b) (λ part. part) second in
             let listed = ended (run (read_textures h) b) length third in
             refused _ _ (read_palettes_follows b header_is block.is listed.is) _ _ r e
 
@@ -423,7 +414,7 @@ module _ (b : List ℕ) where
             → result (record { header = h; textures = textures; palettes = palettes }) ≡ layout_answer b (run read_tex b)
         unfolding layout_answer
         block_laid e =
-            let block = ended (run (read_pal_block h) b) (λ _. tt {0}) second in
+            let block = ended (run (read_pal_block h) b) (λ part. part) second in
             let listed = ended (run (read_textures h) b) length third in
             let last = ended (run (read_palettes h) b) length e in
             rw (header_whole b header_is, listed.gives, last.gives)
@@ -433,14 +424,15 @@ module _ (b : List ℕ) where
 pub ruleset reads = (
   refusals.passed_on,
   refusals.passed_as,
-  take_within,
+  take_length,
   data_length_lt,
   second_length_lt,
   header_refused,
   stamp_refused,
   header_found,
   first_refused,
-  first_passed,
+  second_refused,
+  both_taken,
   second_asked,
   second_left,
   textures_refused,

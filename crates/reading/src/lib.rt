@@ -4,9 +4,9 @@
 
 #![tactic(auto)]
 
-ghost use Rattle.std.specs.Prelude.{◌≡◌, ◌≤◌, length, take as first_bytes};
+ghost use Rattle.std.specs.Prelude.{◌≡◌};
 ghost use Rattle.util.specs.Outcome.{result as answered};
-ghost use Rattle.errors.specs.Refusal.{result_outcome};
+ghost use Rattle.errors.specs.Refusal.{result_outcome, outcome_as};
 ghost use Rattle.errors.specs.declared.Kind.TheVariants as kinds;
 ghost use Rattle.scripts.specs.Script.{run, outcome_of, passing};
 ghost use Rattle.info_block.specs.Lists.{listed};
@@ -23,29 +23,27 @@ use nds::texture_params::TextureParams;
 use scripts::take;
 use util::unsigned::Unsigned;
 
-// Whether the block begins with TEX0.
-#[tactic(auto, using(crate::proofs::Readings::stamp_starts, crate::proofs::Readings::stamp_there))]
-fn has_stamp(block: &[u8]) -> bool
-    requires { 60 ≤ length block.now }
-    ensures { result ≡ Tex.has_stamp (first_bytes 60 block.now) }
+// Whether a block's first bytes begin with TEX0.
+#[tactic(auto, using(crate::proofs::Readings::stamp_starts))]
+fn has_stamp(head: &[u8; 60]) -> bool
+    ensures { result ≡ Tex.has_stamp head.now }
 {
-    block.starts_with(b"TEX0")
+    head.starts_with(b"TEX0")
 }
 
 // The header's fields.
-#[tactic(auto, using(crate::proofs::Readings::field_there), unfolding(crate::specs::Tex::header_of))]
-fn header_of(block: &[u8]) -> Header
-    requires { 60 ≤ length block.now }
-    ensures { result ≡ Tex.header_of (first_bytes 60 block.now) }
+#[tactic(auto, unfolding(crate::specs::Tex::header_of))]
+fn header_of(head: &[u8; 60]) -> Header
+    ensures { result ≡ Tex.header_of head.now }
 {
     Header {
-        texture_off: u16::view(block, 14),
-        tex_block_off: u32::view(block, 20),
-        compressed1_block_off: u32::view(block, 36),
-        compressed2_block_off: u32::view(block, 40),
-        pal_block_len_shr_3: u16::view(block, 48),
-        palette_off: u32::view(block, 52),
-        pal_block_off: u32::view(block, 56),
+        texture_off: u16::view(head, 14),
+        tex_block_off: u32::view(head, 20),
+        compressed1_block_off: u32::view(head, 36),
+        compressed2_block_off: u32::view(head, 40),
+        pal_block_len_shr_3: u16::view(head, 48),
+        palette_off: u32::view(head, 52),
+        pal_block_off: u32::view(head, 56),
     }
 }
 
@@ -54,33 +52,33 @@ fn header_of(block: &[u8]) -> Header
 fn read_header(block: &[u8]) -> Result<Header, Refusal>
     ensures { result_outcome result ≡ outcome_of (run Tex.read_header block.now) answered }
 {
-    take(block, 0, 60)?;
-    if has_stamp(block) {
-        Ok(header_of(block))
+    let head: &[u8; 60] = take(block, 0, 60)?.try_into().unwrap();
+    if has_stamp(head) {
+        Ok(header_of(head))
     } else {
         Err(Refusal::Stamp)
     }
 }
 
-// Whether the palette block is there.
+// Takes the palette block.
 #[tactic(auto, unfolding(crate::specs::Tex::read_pal_block))]
-fn take_pal_block(block: &[u8], header: Header) -> Result<(), Refusal>
-    ensures { result_outcome result ≡ passing (Tex.read_pal_block header) block.now }
+fn take_pal_block(block: &[u8], header: Header) -> Result<&[u8], Refusal>
+    ensures { outcome_as (λ part. part.now) result ≡ outcome_of (run (Tex.read_pal_block header) block.now) answered }
 {
     let place = header.pal_block();
     take(block, place.pos, place.len)
 }
 
-// Whether the second data is there, for a texture that has any.
+// Takes the second data, which a texture of format 5 alone has.
 #[tactic(auto, using(crate::proofs::Readings::reads))]
-fn take_data2(block: &[u8], header: Header, params: TextureParams) -> Result<(), Refusal>
-    ensures { result_outcome result ≡ passing (Tex.read_second header params.0) block.now }
+fn take_data2(block: &[u8], header: Header, params: TextureParams) -> Result<&[u8], Refusal>
+    ensures { outcome_as (λ part. part.now) result ≡ outcome_of (run (Tex.read_second header params.0) block.now) answered }
 {
     if params.format() == TextureFormat::Compressed {
         let place = header.data2(params);
         take(block, place.pos, place.len)
     } else {
-        Ok(())
+        Ok(&[])
     }
 }
 
@@ -91,7 +89,8 @@ fn take_data(block: &[u8], header: Header, params: TextureParams) -> Result<(), 
 {
     let place = header.data1(params);
     take(block, place.pos, place.len)?;
-    take_data2(block, header, params)
+    take_data2(block, header, params)?;
+    Ok(())
 }
 
 // Whether the data of all textures of a list are there, in list order.

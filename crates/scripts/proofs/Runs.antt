@@ -5,13 +5,15 @@ use mathlib.Core.Bool.{Bool, true, false}
 use mathlib.Core.List.{List, [], ◌∷◌}
 use native.Mathlib.Nat.{add-zero, add-suc, suc-add, le_of_suc-le-suc, not-suc-le-zero}
 use native.Mathlib.Omega.{arith}
-use lib.ListN.{length, take, drop, get_or}
+use lib.ListN.{length, take, drop, get_or, length-drop}
+use lib.Seq.{length-take-le}
 use lib.Dec.{leb}
 use borrow.Author.Tests.{le-leb, lt-leb, leb-true, leb-false}
+use Rattle.std.specs.Prelude.{Result, Err}
 use Rattle.util.specs.Outcome.{Outcome, result, refusal}
-use Rattle.util.specs.Take.{length_of, take_of}
+use Rattle.util.specs.Take.{taken_as, bytes_of}
 use Rattle.util.specs.declared.cur.Needed.{Needed}
-use Rattle.util.proofs.Takes.{took, lacked, low_exact}
+use Rattle.util.proofs.Takes.{took, lacked}
 use Rattle.errors.specs.Refusal.{Fault, fault_number, refusal_outcome}
 use Rattle.errors.specs.declared.Refusal.{Refusal}
 use Rattle.errors.proofs.Refusals.{refusal_not, refusal_any}
@@ -249,17 +251,29 @@ module _ {A B C D : Type 0} (x : Answer A) (y : Answer B) (follows : Follows x y
       go (fault w) q = rw (follows.at_fault w q) (refusal_any r (rw q at e))
       go (whole a) q = absurd (refusal_not r (rw q at e))
 
--- a take that passed
-pub take_within : (p n : ℕ) (b : List ℕ) → result (tt {0}) ≡ outcome_of (run (bytes_at p n) b) (λ _. result (tt {0})) → p + n ≤ length b
-take_within p n b e = (bytes_whole p n b (ended (run (bytes_at p n) b) (λ _. tt {0}) e).is).within
+-- a take that passed, by its bytes
+module _ (p n : ℕ) (b : List ℕ) {bytes : List ℕ} (e : result bytes ≡ outcome_of (run (bytes_at p n) b) result) where
+  pub taken_whole : run (bytes_at p n) b ≡ whole bytes
+  taken_whole = let o = ended (run (bytes_at p n) b) (λ part. part) e in o.is ∙ ap whole (sym o.gives)
+
+  pub taken : Bytes p n b bytes
+  taken = bytes_whole p n b taken_whole
+
+  pub take_within : p + n ≤ length b
+  take_within = taken.within
+
+  pub take_length : n ≡ length bytes
+  take_length = rw taken.same (sym (length-take-le n (drop p b) (rw length-drop (omega (arith, taken.within)))))
 
 -- and a take by the answer of `take_at`
 module _ (p n : ℕ) (b : List ℕ) where
-  pub take_passed : {end : ℕ} → result end ≡ take_of (length b) p n (p + n) → result (tt {0}) ≡ outcome_of (run (bytes_at p n) b) (λ _. result (tt {0}))
-  take_passed e = whole_outcome _ (bytes_in p n b (took _ _ _ _ e).within)
+  pub take_passed : {bytes : List ℕ} → result bytes ≡ bytes_of p n b → result bytes ≡ outcome_of (run (bytes_at p n) b) result
+  take_passed e = let t = took _ _ _ _ e in ap result t.holds ∙ whole_outcome _ (bytes_in p n b t.within)
 
-  pub take_missed : (needed : Needed) → p + n < 2 ^ 64 → refusal 1 (length_of needed) ≡ take_of (length b) p n (p + n)
-      → refusal 1 needed.low ≡ outcome_of (run (bytes_at p n) b) (λ _. result (tt {0}))
-  take_missed needed h e =
-      let l = lacked _ _ _ _ e in
-      ap (refusal 1) (low_exact needed (omega arith) ∙ l.ends) ∙ short_outcome _ (bytes_out p n b l.past)
+  pub take_missed : {number needed : ℕ} → refusal number needed ≡ bytes_of p n b → refusal 1 needed ≡ outcome_of (run (bytes_at p n) b) result
+  take_missed e = let l = lacked _ _ _ _ e in ap (refusal 1) l.ends ∙ short_outcome _ (bytes_out p n b l.past)
+
+  -- the length that a short take needs is the end of its bytes
+  pub take_fits : {A : Type 0} (f : A → List ℕ) (answer : Result A Needed) (needed : Needed)
+      → taken_as f answer ≡ bytes_of p n b → p + n < 2 ^ 64 → answer ≡ Err needed → needed.0 < 2 ^ 64
+  take_fits f answer needed e h same = omega (arith, (lacked (length b) p n (take n (drop p b)) (rw same at e)).ends, h)

@@ -1,15 +1,17 @@
 -- The laws of `take_of`, `taken_part` and `length_of`. Assumes nothing.
-use Prim.Native.Nat.{ℕ, ◌+◌, ◌^◌, ◌≤◌, ◌<◌}
+use Prim.Native.Nat.{ℕ, ◌+◌, ◌≤◌, ◌<◌}
 use mathlib.Core.Path.{◌≡◌, refl, sym, ap, ◌∙◌}
 use mathlib.Core.Bool.{Bool, true, false, cond}
 use mathlib.Core.List.{List, []}
 use native.Mathlib.Omega.{arith}
-use lib.ListN.{length, take, drop}
+use lib.ListN.{length, take, drop, length-drop}
+use lib.Seq.{length-take-le}
 use lib.Dec.{leb}
 use borrow.Author.Tests.{le-leb, lt-leb, leb-true, leb-false}
+use Rattle.util.proofs.Numbers.{number_in_part}
 use Rattle.util.specs.Outcome.{result, refusal}
-use Rattle.util.specs.Take.{length_of, take_of, taken_part, taken_to}
-use Rattle.util.specs.declared.cur.Needed.{Needed}
+use Rattle.util.specs.Number.{number_at}
+use Rattle.util.specs.Take.{take_of, bytes_of, peek_of, taken_part, taken_to}
 
 -- a take that passed: its bytes are there, and its answer is `passed`
 pub record Took {A : Type 0} (len p n : ℕ) (passed answer : A) : Type 0 where
@@ -56,33 +58,23 @@ same_short len p n q m passed other same e =
     let past : len < q + m = omega (arith, l, same) in
     cc (falls_short len q m other past)
 
-module _ (needed : Needed) where
-  pub past_64 : needed.carry ≡ true → length_of needed ≡ needed.low + 2 ^ 64
-  past_64 e = rw e
+-- the bytes that a take answers with
+module _ (p n : ℕ) (block : List ℕ) {bytes : List ℕ} (e : result bytes ≡ bytes_of p n block) where
+  taken : Took (length block) p n (take n (drop p block)) bytes
+  taken = took (length block) p n (take n (drop p block)) e
 
-  pub within_64 : needed.carry ≡ false → length_of needed ≡ needed.low
-  within_64 e = rw e (omega arith)
+  pub taken_there : p + n ≤ length block
+  taken_there = taken.within
 
-  -- a length that fits 64 bits is its low part: what a caller whose positions are small learns
-  pub low_exact : length_of needed < 2 ^ 64 → needed.low ≡ length_of needed
-  low_exact h = go needed.carry refl
-    where
-      go : (t : Bool) → needed.carry ≡ t → needed.low ≡ length_of needed
-      go true e = absurd (omega (arith, past_64 e))
-      go false e = sym (within_64 e)
+  pub taken_length : n ≡ length bytes
+  taken_length = rw taken.holds (sym (length-take-le n (drop p block) (rw length-drop (omega (arith, taken.within)))))
 
--- the bytes of a take end at `needed`: the take passes where that is within the slice, and is short where it has a carry or is past the slice
-module _ {A : Type 0} (needed : Needed) (len p n : ℕ) (passed : A) (ends : length_of needed ≡ p + n) where
-  pub end_carried : len < 2 ^ 64 → needed.carry ≡ true → refusal 1 (length_of needed) ≡ take_of len p n passed
-  end_carried h e = ap (refusal 1) ends ∙ falls_short len p n passed (omega (arith, past_64 needed e))
-
-  pub end_past : needed.carry ≡ false → len < needed.low → refusal 1 (length_of needed) ≡ take_of len p n passed
-  end_past e h = ap (refusal 1) ends ∙ falls_short len p n passed (omega (arith, within_64 needed e))
-
-pub end_within : (needed : Needed) (len p n : ℕ)
-    → length_of needed ≡ p + n → needed.carry ≡ false → needed.low ≤ len → result needed.low ≡ take_of len p n (p + n)
-end_within needed len p n ends e h =
-    ap result (sym (within_64 needed e) ∙ ends) ∙ passes len p n (p + n) (omega (arith, within_64 needed e))
+  -- a number in them is the one that stands in the slice
+  pub number_taken : (size q r : ℕ) → q + size ≡ n → p + q ≡ r → result (number_at size q bytes) ≡ peek_of size r block
+  number_taken size q r ends there =
+      let within : r + size ≤ length block = omega (arith, taken.within, ends, there) in
+      ap result (rw taken.holds (number_in_part size q p n block (omega (arith, ends))) ∙ ap (λ (s : ℕ). number_at size s block) there)
+      ∙ passes (length block) r size (number_at size r block) within
 
 module _ (p n : ℕ) (block : List ℕ) where
   pub part_there : p + n ≤ length block → take n (drop p block) ≡ taken_part p n block

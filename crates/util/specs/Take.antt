@@ -1,23 +1,32 @@
 -- Takes. Assumes nothing.
-use Rattle.std.specs.Prelude.{ℕ, ◌+◌, ◌^◌, cond, List, [], length, take, drop, leb, Result, Ok, Err}
+use Rattle.std.specs.Prelude.{ℕ, ◌+◌, cond, List, [], length, take, drop, leb, Result, Ok, Err}
 use Rattle.util.specs.Number.{number_at}
 use Rattle.util.specs.Outcome.{Outcome, result, refusal}
 use Rattle.util.specs.declared.cur.Needed.{Needed}
 
 -- The number that a `Needed` stands for: 01's "want".
 abbrev pub length_of : Needed → ℕ
-length_of s = s.low + cond s.carry (2 ^ 64) 0
+length_of needed = needed.0
 
--- 01's number and value of each case. 01, "When a call is declined": "take is short", number 1, returned "want": the length needed.
+-- 01's number and value of each case, where `f` says what is told of the value. 01, "When a call is declined": "take is short", number 1,
+-- returned "want": the length needed.
+abbrev pub taken_as : {A B : Type 0} → (A → B) → Result A Needed → Outcome B
+taken_as f (Ok a) = result (f a)
+taken_as f (Err needed) = refusal 1 (length_of needed)
+
+-- And where the value itself is told.
 abbrev pub taken_outcome : {A : Type 0} → Result A Needed → Outcome A
-taken_outcome (Ok a) = result a
-taken_outcome (Err needed) = refusal 1 (length_of needed)
+taken_outcome answer = taken_as (λ a. a) answer
 
 -- 01, "Modules" 2: "A take of n bytes at p is short exactly if p + n, as an unbounded sum, exceeds the length; n = 0 passes at p equal
 -- to the length, not beyond." "Want is the length at which the failed take passes." On a block of `len` bytes a take that passes answers
 -- with `passed`.
 unfoldable pub take_of : {A : Type 0} (len p n : ℕ) (passed : A) → Outcome A
 take_of len p n passed = cond (leb (p + n) len) (result passed) (refusal 1 (p + n))
+
+-- A take of n bytes at p that answers with them.
+abbrev pub bytes_of : (p n : ℕ) → List ℕ → Outcome (List ℕ)
+bytes_of p n block = take_of (length block) p n (take n (drop p block))
 
 -- 01, "Rust idioms to redo": "plain 1, 2, 4-byte takes". A take of `size` bytes at p that answers with their number.
 abbrev pub peek_of : (size p : ℕ) → List ℕ → Outcome ℕ
