@@ -2,7 +2,7 @@
 
 #![tactic(auto)]
 
-ghost use Rattle.std.specs.Prelude.{◌≡◌, ◌+◌, ◌*◌, ◌≤◌, ◌<◌, length};
+ghost use Rattle.std.specs.Prelude.{◌≡◌, ◌+◌, ◌*◌, ◌≤◌, ◌<◌, ◌^◌, length};
 ghost use Rattle.texels.specs.Texels as Texels;
 ghost use Rattle.texels.specs.Index as Index;
 ghost use Rattle.one.specs.One as One;
@@ -49,14 +49,21 @@ pub fn texel7(data1: &[u8], n: usize) -> [u8; 4]
     direct(u16::view(data1, 2 * n))
 }
 
+// The number of the block that the texel in column x and row y is in.
+fn block_of(width: usize, x: usize, y: usize) -> usize
+    requires { Texels.block_of width x y < 2 ^ 64 }
+    ensures { result ≡ Texels.block_of width x y }
+{
+    width / 4 * (y / 4) + x / 4
+}
+
 // The two bits of the texel in column x and row y.
 fn block_texel(data1: &[u8], width: usize, x: usize, y: usize) -> u8
     requires { 4 * Texels.block_of width x y + 4 ≤ length data1.now }
     ensures { result ≡ One.block_texel width data1.now x y }
 {
-    let b = width / 4 * (y / 4) + x / 4;
     let place = 4 * (y % 4) + x % 4;
-    ((u32::view(data1, 4 * b) >> (2 * place)) & 3) as u8
+    ((u32::view(data1, 4 * block_of(width, x, y)) >> (2 * place)) & 3) as u8
 }
 
 // The extra of the block that the texel in column x and row y is in.
@@ -64,8 +71,7 @@ fn block_extra(data2: &[u8], width: usize, x: usize, y: usize) -> u16
     requires { 2 * Texels.block_of width x y + 2 ≤ length data2.now }
     ensures { result ≡ One.block_extra width data2.now x y }
 {
-    let b = width / 4 * (y / 4) + x / 4;
-    u16::view(data2, 2 * b)
+    u16::view(data2, 2 * block_of(width, x, y))
 }
 
 // The texel of format 5 in column x and row y.

@@ -64,10 +64,7 @@ pub fn rgb555a5(rgb555: u16, a5: u8) -> [u8; 4]
 pub fn palette_color(pal: &[u8], off: u32, i: u16) -> u16
     ensures { result ≡ Texels.palette_color pal.now off i }
 {
-    match nth_u16(pal, off as usize, i as u32) {
-        Ok(color) => color as u16,
-        Err(_) => 0,
-    }
+    nth_u16(pal, off as usize, i as u32).map_or(0, |color| color as u16)
 }
 
 // A palette: the block that it is in, and its offset there.
