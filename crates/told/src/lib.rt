@@ -15,21 +15,13 @@ use nitro::tex::Counts;
 pub fn wrap_number(wrap: Wrap) -> u32
     ensures { result ≡ Told.wrap_number wrap }
 {
-    match wrap {
-        Wrap::Clamp => 0,
-        Wrap::Repeat => 1,
-        Wrap::Mirror => 2,
-    }
+    wrap as u32
 }
 
 pub fn alpha_number(alpha: Alpha) -> u32
     ensures { result ≡ Told.alpha_number alpha }
 {
-    match alpha {
-        Alpha::Opaque => 0,
-        Alpha::Transparent => 1,
-        Alpha::Translucent => 2,
-    }
+    alpha as u32
 }
 
 // The palette that is chosen, by its number for a picture and by its offset for a direct decoding: none where has_palette is 0.
