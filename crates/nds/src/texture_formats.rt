@@ -23,6 +23,7 @@ pub enum TextureFormat {
     Direct = 7,
 }
 
+// An alpha kind, and the number that other languages are told for it.
 #[derive(Clone, Copy, Debug, PartialEq, Eq)]
 pub enum Alpha {
     // Every texel is solid.

@@ -2,6 +2,7 @@
 ghost use Rattle.std.specs.Prelude.{◌≡◌};
 ghost use Rattle.nds.specs.Wrap.{wrap_of, wrap_word};
 
+// A wrap word, and the number that other languages are told for it.
 #[derive(Clone, Copy, Debug, PartialEq, Eq)]
 pub enum Wrap {
     Clamp = 0,
