@@ -1,15 +1,15 @@
 -- The laws of texels written one after another. Assumes nothing.
-use Prim.Native.Nat.{ℕ, zero, suc, ◌+◌, ◌*◌, ◌≤◌, ◌<◌}
+use Prim.Native.Nat.{ℕ, ◌+◌, ◌*◌, ◌≤◌, ◌<◌}
 use mathlib.Core.Path.{◌≡◌, refl, sym, ◌∙◌, subst}
-use mathlib.Core.Bool.{Bool, true, false, cond}
-use mathlib.Core.List.{List, [], ◌++◌, append_assoc}
+use mathlib.Core.Bool.{cond}
+use mathlib.Core.List.{List, [], ◌++◌}
 use native.Mathlib.Numerals.{add-one}
 use native.Mathlib.Omega.{arith}
-use lib.ListN.{length, take, drop, length-append}
-use lib.Seq.{sets, take_at, drop_at}
-use lib.Dec.{ltb, eqb}
+use lib.ListN.{length}
+use lib.Seq.{sets}
+use lib.Dec.{eqb}
 use borrow.Author.Count.{below_more}
-use borrow.Author.Tests.{ltb-true, ltb-false, eq-eqb, ne_eqb}
+use borrow.Author.Tests.{eq-eqb, ne_eqb}
 use Rattle.output.proofs.Outputs.{Wrote, wrote_none, wrote_more, pieces_length, pieces_same}
 use Rattle.output.specs.Output.{pieces}
 use Rattle.paint.specs.Paint.{painted, Paints, Makes}
@@ -20,20 +20,6 @@ Fours f n = (i : ℕ) → i < n → length (f i) ≡ 4
 
 pub length_quads : (f : ℕ → List ℕ) (n : ℕ) → Fours f n → length (pieces f n) ≡ 4 * n
 length_quads f n fours = omega (arith, pieces_length f 4 n fours)
-
--- texel k of the first n
-pub quad_at : (f : ℕ → List ℕ) (n k : ℕ) (rest : List ℕ) → Fours f n → k < n → take 4 (drop (4 * k) (pieces f n ++ rest)) ≡ f k
-unfolding pieces
-quad_at f zero k rest fours h = absurd (omega arith)
-quad_at f (suc n) k rest fours h = rw append_assoc (go (ltb k n) refl (λ l. quad_at f n k (f n ++ rest) (λ i m. fours i (omega arith)) l))
-  where
-    go : (t : Bool) → ltb k n ≡ t → (k < n → take 4 (drop (4 * k) (pieces f n ++ (f n ++ rest))) ≡ f k)
-        → take 4 (drop (4 * k) (pieces f n ++ (f n ++ rest))) ≡ f k
-    go true e before = before (ltb-true k n e)
-    go false e before =
-        let same : k ≡ n = omega (arith, ltb-false k n e) in
-        rw (same, drop_at (pieces f n) (f n ++ rest) (4 * n) (length_quads f n (λ i l. fours i (omega arith))))
-        (take_at (f n) rest 4 (fours n (omega arith)))
 
 -- an output whose first n texels are written: the invariant of the loops
 abbrev pub Painting : (f : ℕ → List ℕ) (n : ℕ) (entry now : List ℕ) → Type 0
@@ -60,18 +46,20 @@ module _ (f : ℕ → List ℕ) (n : ℕ) {entry now : List ℕ} (w : Painting f
 -- texels that may be made, written one after another
 pub record PaintingMade (post : ℕ → List ℕ → Type 0) (n : ℕ) (entry now : List ℕ) : Type 0 where
   pub texel : ℕ → List ℕ
+  pub four : Fours texel n
   pub made : (k : ℕ) → k < n → post k (texel k)
   pub painting : Painting texel n entry now
 
 module _ {post : ℕ → List ℕ → Type 0} where
   pub made_none : (entry : List ℕ) → PaintingMade post 0 entry entry
-  made_none entry = record { texel = λ k. []; made = λ k h. absurd (omega arith); painting = paint_none _ entry }
+  made_none entry = record { texel = λ k. []; four = λ k h. absurd (omega arith); made = λ k h. absurd (omega arith); painting = paint_none _ entry }
 
   module _ {n : ℕ} {entry now : List ℕ} (w : PaintingMade post n entry now) where
     pub made_more : {texel : List ℕ} → post n texel → length texel ≡ 4 → 4 * n + 4 ≤ length entry
         → PaintingMade post (n + 1) entry (sets now (4 * n) texel)
     made_more {texel} is four h = record {
       texel = with;
+      four = below_more (λ k. length (with k) ≡ 4) n (λ k l. rw (← before k l) (w.four k l)) (rw (← here) four);
       made = below_more (λ k. post k (with k)) n (λ k l. subst (post k) (before k l) (w.made k l)) (subst (post n) here is);
       painting =
           paint_more with n (rw (← pieces_same w.texel with n before) w.painting) here (rw (← here) four) h;
@@ -87,21 +75,12 @@ module _ {post : ℕ → List ℕ → Type 0} where
         here = rw (eq-eqb n n refl)
 
     pub made_all : Paints post n entry now
-    made_all = record { texel = w.texel; made = w.made; paints = painted_all w.texel n w.painting }
+    made_all = record { texel = w.texel; four = w.four; made = w.made; paints = painted_all w.texel n w.painting }
 
   -- where only one texel may be made for a number
   pub painted_as : (f : ℕ → List ℕ) (n : ℕ) {entry exit : List ℕ} → Paints post n entry exit → Makes post n f → exit ≡ painted f n entry
   unfolding painted
   painted_as f n p makes = p.paints ∙ rw (pieces_same p.texel f n (λ k h. makes k (p.texel k) h (p.made k h)))
-
--- texel k of an output with n texels
-pub painted_at : (f : ℕ → List ℕ) (n k : ℕ) (entry : List ℕ) → Fours f n → k < n → take 4 (drop (4 * k) (painted f n entry)) ≡ f k
-unfolding painted
-painted_at f n k entry fours h = quad_at f n k (drop (4 * n) entry) fours h
-
-pub painted_room : (f : ℕ → List ℕ) (n : ℕ) (entry : List ℕ) → Fours f n → 4 * n ≤ length (painted f n entry)
-unfolding painted
-painted_room f n entry fours = rw length-append (omega (arith, length_quads f n fours))
 
 -- outputs with the same texels
 pub painted_same : (f g : ℕ → List ℕ) {m n : ℕ} (out : List ℕ) → ((i : ℕ) → g i ≡ f i) → m ≡ n → painted f m out ≡ painted g n out

@@ -7,9 +7,10 @@ use Rattle.texels.specs.Texels.{widen, texel_bits}
 unfoldable pub painted : (texel : ℕ → List ℕ) (n : ℕ) (output : List ℕ) → List ℕ
 painted texel n output = pieces texel n ++ drop (4 * n) output
 
--- The first count texels written, each as it may be made for its number.
+-- The first count texels written, each of four bytes and as it may be made for its number.
 pub record Paints (post : ℕ → List ℕ → Type 0) (count : ℕ) (entry exit : List ℕ) : Type 0 where
   pub texel : ℕ → List ℕ
+  pub four : (n : ℕ) → n < count → length (texel n) ≡ 4
   pub made : (n : ℕ) → n < count → post n (texel n)
   pub paints : exit ≡ painted texel count entry
 

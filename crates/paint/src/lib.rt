@@ -25,7 +25,7 @@ pub fn put_pixel(out: &mut [u8], n: usize, pixel: [u8; 4])
 }
 
 // Writes the first count texels, in order, each as the closure makes it by its number.
-#[tactic(auto, using(crate::proofs::Quads::made_none, crate::proofs::Quads::made_more, crate::proofs::Quads::made_all, crate::proofs::Quads::painted_as))]
+#[tactic(auto, using(crate::proofs::Quads::made_none, crate::proofs::Quads::made_more, crate::proofs::Quads::made_all))]
 pub fn put_texels<F: Fn(usize) -> [u8; 4]>(out: &mut [u8], count: usize, texel: F)
     requires room { 4 * count ≤ length out.old }
     requires callable { (n : ℕ) → n < count → F.pre texel n }
@@ -131,12 +131,15 @@ fn put_bytes<F: Fn(u8) -> [u8; 4]>(out: &mut [u8], data1: &[u8], texel: F)
     );
 }
 
-// The same by a table of the texels of all bytes.
-fn put_bytes_by_table<F: Fn(u8) -> [u8; 4]>(out: &mut [u8], data1: &[u8], texel: F)
+// The same, by a table of the texels of all bytes where that is worth its making: where there are more texels than bytes.
+fn decode_bytes<F: Fn(u8) -> [u8; 4]>(out: &mut [u8], data1: &[u8], texel: F)
     requires room { 4 * length data1.now ≤ length out.old }
     requires callable { F.IsAlwaysCallable texel }
     ensures { (f : ℕ → List ℕ) → Paint.Makes (F.post texel) 256 f → out.new ≡ Paint.painted (λ n. f (slice_index data1.now n)) (length data1.now) out.old }
 {
+    if data1.len() < 512 {
+        return put_bytes(out, data1, texel);
+    }
     let table: [[u8; 4]; 256] = array::from_fn(
         |b|
             requires { (b < 256) × F.IsAlwaysCallable texel }
@@ -150,19 +153,6 @@ fn put_bytes_by_table<F: Fn(u8) -> [u8; 4]>(out: &mut [u8], data1: &[u8], texel:
             ensures { result ≡ Paint.pixel_at table b }
         { table[b as usize] },
     );
-}
-
-// The same, by a table where that is worth its making: where there are more texels than bytes.
-fn decode_bytes<F: Fn(u8) -> [u8; 4]>(out: &mut [u8], data1: &[u8], texel: F)
-    requires room { 4 * length data1.now ≤ length out.old }
-    requires callable { F.IsAlwaysCallable texel }
-    ensures { (f : ℕ → List ℕ) → Paint.Makes (F.post texel) 256 f → out.new ≡ Paint.painted (λ n. f (slice_index data1.now n)) (length data1.now) out.old }
-{
-    if data1.len() < 512 {
-        put_bytes(out, data1, texel)
-    } else {
-        put_bytes_by_table(out, data1, texel)
-    }
 }
 
 // A texel with another alpha.
