@@ -1,0 +1,39 @@
+-- The bytes of an answer. Assumes nothing.
+use Rattle.std.specs.Prelude.{ℕ, ◌≡◌, ◌+◌, ◌-◌, cond, ◌||◌, eqb, List, [], ◌∷◌, ◌++◌, length, take, replicate, Result, Ok, Err}
+use Rattle.std.specs.Int.{to_le_bytes, w64}
+use Rattle.answer_bytes.specs.declared.TheConstants.{ROOM, UNWRITTEN}
+use Rattle.errors.specs.Refusal.{refusal_number}
+use Rattle.errors.specs.declared.Refusal.{Refusal}
+
+-- The answer with bytes behind it. What does not fit the room is left out.
+unfoldable pub extended : (answer bytes : List ℕ) → List ℕ
+extended answer bytes = answer ++ take (ROOM - length answer) bytes
+
+-- The class of a refusal with this number, as the program `replay` lists them.
+abbrev pub class_of : (number : ℕ) → ℕ
+class_of number =
+    cond (eqb number 1 || eqb number 2) number
+    (cond (eqb number 3 || eqb number 5) 3
+    (cond (eqb number 4 || eqb number 6) 4
+    (cond (eqb number 9 || eqb number 10) number 255)))
+
+-- The low 32 bits of a number, in 4 bytes, the lowest first.
+abbrev pub low_bytes : ℕ → List ℕ
+low_bytes n = take 4 (to_le_bytes w64 n)
+
+-- A part behind its length.
+abbrev pub part_bytes : List ℕ → List ℕ
+part_bytes part = low_bytes (length part) ++ part
+
+-- What is put of a picture that was drawn to an output: class 0 and the picture, or the refusal's class.
+abbrev pub drawn_bytes : Result ℕ Refusal → (output : List ℕ) → List ℕ
+drawn_bytes (Ok n) output = 0 ∷ take n output
+drawn_bytes (Err refusal) output = class_of (refusal_number refusal) ∷ []
+
+-- A picture was drawn to the room behind class 0, none of which was written, and is put behind the answer. `draws` is what a call draws: the
+-- output before it, its answer, and the output behind it.
+pub record PutsPicture (draws : (before : List ℕ) → Result ℕ Refusal → (after : List ℕ) → Type 0) (old new : List ℕ) : Type 0 where
+  pub answer : Result ℕ Refusal
+  pub output : List ℕ
+  pub drawn : draws (replicate (ROOM - (length old + 1)) UNWRITTEN) answer output
+  pub put : new ≡ extended old (drawn_bytes answer output)
