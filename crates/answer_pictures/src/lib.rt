@@ -2,15 +2,36 @@
 
 #![tactic(auto)]
 
+ghost use Rattle.std.specs.Prelude.{◌≡◌};
+ghost use Rattle.answer_pictures.specs.Pictures.{with_one, with_both, with_pictures};
+
 use answer_bytes::Answer;
 use decode::picture::picture;
 
-// The pictures of each texture: without a palette, and, where there is any palette, with one.
-pub fn put_pictures(answer: &mut Answer, block: &[u8], textures: usize, palettes: usize) {
+// Puts the picture of texture n with the chosen palette.
+fn put_one(answer: &mut Answer, block: &[u8], n: usize, choice: Option<usize>)
+    ensures { answer.new ≡ with_one block.now n choice answer.old }
+{
+    answer.put_picture(|out| picture(block, n, choice, out));
+}
+
+// Puts the pictures of texture n: without a palette, and, where there is any palette, with one.
+#[tactic(auto, unfolding(crate::specs::Pictures::with_both))]
+fn put_both(answer: &mut Answer, block: &[u8], n: usize, palettes: usize)
+    ensures { answer.new ≡ with_both block.now palettes n answer.old }
+{
+    put_one(answer, block, n, None);
+    if palettes != 0 {
+        put_one(answer, block, n, Some(n % palettes));
+    }
+}
+
+// Puts the pictures of each texture.
+#[tactic(auto, unfolding(crate::specs::Pictures::with_pictures))]
+pub fn put_pictures(answer: &mut Answer, block: &[u8], textures: usize, palettes: usize)
+    ensures { answer.new ≡ with_pictures block.now palettes textures answer.old }
+{
     for n in 0..textures {
-        answer.put_picture(|out| picture(block, n, None, out));
-        if palettes != 0 {
-            answer.put_picture(|out| picture(block, n, Some(n % palettes), out));
-        }
+        put_both(answer, block, n, palettes);
     }
 }

@@ -2,15 +2,25 @@
 
 #![tactic(auto)]
 
+ghost use Rattle.std.specs.Prelude.{◌≡◌, ◌↔◌, [], IsTrue};
+ghost use Rattle.errors.specs.Refusal.{result_outcome};
+ghost use Rattle.answer_bytes.specs.Answer.{extended};
+ghost use Rattle.answer_pictures.specs.Pictures.{with_pictures};
+ghost use Rattle.block_answers.specs.Block.{read_bytes, answer_by, answer_to};
+
 use answer_bytes::Answer;
 use answer_palettes::{put_pal_block, put_palettes};
 use answer_pictures::put_pictures;
 use answer_textures::put_textures;
+use errors::Refusal;
 use nitro::tex;
 use nitro::tex::Counts;
 
-// All that is answered of a block that is read, behind class 0.
-fn put_read(answer: &mut Answer, block: &[u8], counts: Counts) {
+// Puts all that is answered of a block that is read, behind class 0.
+#[tactic(auto, using(answer_bytes::proofs::Extended::extended_twice))]
+fn put_read(answer: &mut Answer, block: &[u8], counts: Counts)
+    ensures { answer.new ≡ with_pictures block.now counts.palettes counts.textures (extended answer.old (read_bytes block.now counts.textures counts.palettes)) }
+{
     answer.put_u8(0);
     answer.put_u8(counts.textures);
     answer.put_u8(counts.palettes);
@@ -20,12 +30,21 @@ fn put_read(answer: &mut Answer, block: &[u8], counts: Counts) {
     put_pictures(answer, block, counts.textures, counts.palettes);
 }
 
-// Whether the block's answer is the stored one.
-pub fn block_agrees(block: &[u8], stored: &[u8]) -> bool {
+// The answer to a block that is read so.
+fn answer_by(block: &[u8], reading: Result<Counts, Refusal>) -> Answer
+    ensures { result ≡ answer_by block.now (result_outcome reading) }
+{
     let mut answer = Answer::new();
-    match tex::read_tex(block) {
+    match reading {
         Ok(counts) => put_read(&mut answer, block, counts),
         Err(refusal) => answer.put_class(refusal),
     }
-    answer.agrees(stored)
+    answer
+}
+
+// Whether the block's answer is the stored one.
+pub fn block_agrees(block: &[u8], stored: &[u8]) -> bool
+    ensures { IsTrue result ↔ (answer_to block.now ≡ stored.now) }
+{
+    answer_by(block, tex::read_tex(block)).agrees(stored)
 }

@@ -1,0 +1,51 @@
+-- The texts of a record. Assumes nothing.
+use Prim.Native.Nat.{ℕ, ◌≤◌}
+use mathlib.Core.Path.{◌≡◌, refl, ap, sym, ◌∙◌}
+use mathlib.Core.List.{List, flat_map}
+use native.Mathlib.Omega.{arith}
+use lib.ListN.{length, take, length-take}
+use Rattle.std.specs.Prelude.{Result, Ok, Err, IsOk}
+use Rattle.util.specs.Outcome.{result}
+use Rattle.errors.specs.Refusal.{result_outcome}
+use Rattle.errors.specs.declared.Refusal.{Refusal}
+use Rattle.errors.proofs.Refusals.{refusal_not}
+use Rattle.output.specs.Output.{Writes}
+use Rattle.output.proofs.Outputs.{outcome_there, output_there, text_there as first_there}
+use Rattle.name.specs.Name.{safe_text, display_text, display_byte, trimmed}
+use Rattle.name.proofs.Texts.{safe_within, display_kept, widths_added, widths_few}
+
+-- both texts fit 32 bytes
+pub safe_fits : (name : List ℕ) → length name ≡ 16 → length (safe_text name) ≤ 32
+safe_fits name e = let most : length (safe_text name) ≤ 16 = safe_within name (length (trimmed name)) refl 15 (omega arith) in omega arith
+
+pub display_fits : (name : List ℕ) → length name ≡ 16 → length (display_text name) ≤ 32
+display_fits name e =
+    let n : ℕ = length (trimmed name) in
+    let bytes : length (display_text name) ≡ length (flat_map display_byte (take n name)) = ap length (display_kept name n refl) in
+    omega (arith, bytes, widths_added (take n name), widths_few (take n name), length-take n name)
+
+-- a text that fits is written
+module _ {text entry exit : List ℕ} (answer : Result ℕ Refusal) (w : Writes (result text) entry (result_outcome answer) exit)
+    (fits : length text ≤ length entry) where
+  told : result_outcome answer ≡ result (length text)
+  told = w.outcome ∙ outcome_there text entry fits
+
+  pub text_ok : IsOk answer
+  text_ok = go answer told
+    where
+      go : (answer : Result ℕ Refusal) → result_outcome answer ≡ result (length text) → IsOk answer
+      go (Ok len) e = refl
+      go (Err refused) e = absurd (refusal_not refused e)
+
+  pub text_there : {len : ℕ} → answer ≡ Ok len → len ≡ length text
+  text_there e = cc (rw e at told)
+
+  pub text_written : {len : ℕ} → answer ≡ Ok len → take len exit ≡ text
+  text_written e = rw (text_there e, w.output, output_there text entry fits) (first_there text entry fits)
+
+  pub text_within : {len : ℕ} → answer ≡ Ok len → (len ≤ length exit) × (len ≡ length (take len exit))
+  text_within {len} e =
+      let same : len ≡ length (take len exit) = text_there e ∙ sym (ap length (text_written e)) in
+      (omega (arith, same, length-take len exit), same)
+
+pub ruleset records = (safe_fits, display_fits, text_written)
