@@ -3,6 +3,8 @@
 
 #![tactic(auto)]
 
+ghost use Rattle.std.specs.Prelude.{◌<◌, length, IfSome};
+
 use block_report::{palettes, part, refused, textures};
 use name_report::texts;
 use nitro::tex;
@@ -31,18 +33,17 @@ fn show(block: &[u8]) {
 }
 
 // The input's first block, whose length stands before it, and what is behind it. None where there is no whole block.
-fn first_block(input: &[u8]) -> Option<(&[u8], &[u8])> {
+fn first_block(input: &[u8]) -> Option<(&[u8], &[u8])>
+    ensures { IfSome result (λ parts. length parts.1.now < length input.now) }
+{
     let (len, behind) = input.split_first_chunk::<4>()?;
     behind.split_at_checked(u32::from_le_bytes(*len) as usize)
 }
 
-// Shows each block of the input. There are fewer than 1,000.
+// Shows each block of the input.
 fn show_all(input: &[u8]) {
     let mut rest = input;
-    for _ in 0..1000 {
-        let Some((block, behind)) = first_block(rest) else {
-            return;
-        };
+    while let Some((block, behind)) = first_block(rest) {
         show(block);
         rest = behind;
     }
