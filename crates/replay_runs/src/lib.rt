@@ -21,8 +21,8 @@ pub fn run_case() -> Result<Option<bool>, Broken> {
         return Ok(None);
     };
     match first[0] {
-        b'B' => Ok(Some(run_block()?)),
-        b'D' => Ok(Some(run_direct()?)),
+        b'B' => run_block().map(Some),
+        b'D' => run_direct().map(Some),
         _ => Err(Broken),
     }
 }

@@ -77,10 +77,8 @@ fn tell_too_long(err: &impl Print) -> io::Result<()> {
 
 // What the text of an error says. Behind the system's words std's text has the error's number, which is not told.
 fn words(text: &str) -> &str {
-    match text.rsplit_once(" (os error ") {
-        Some((words, _)) => words,
-        None => text,
-    }
+    text.rsplit_once(" (os error ")
+        .map_or(text, |(words, _)| words)
 }
 
 // The path is told byte for byte, since it need not be text.
@@ -97,10 +95,11 @@ fn tell_unopened<R: Alloc>(
 
 // Opens a file for reading. The paths of std are UTF-8.
 fn open<R: Files>(rt: &R, path: &[u8]) -> io::Result<R::File> {
-    match str::from_utf8(path) {
-        Ok(path) => fs::open(rt, path),
-        Err(_) => Err(io::Error::new(ErrorKind::InvalidFilename, "the path is not UTF-8")),
-    }
+    let path = str::from_utf8(path).map_err(|_| io::Error::new(
+        ErrorKind::InvalidFilename,
+        "the path is not UTF-8",
+    ))?;
+    fs::open(rt, path)
 }
 
 fn show(
