@@ -33,6 +33,7 @@ impl From<Refusal> for Unshown {
 
 // Writes the picture of texture n with the chosen palette as a PAM image to an output that has room for every image. A file that is refused
 // or too long leaves every byte of the output as it was.
+#[tactic(auto, using(pam::proofs::Bounds::pam_fits), unfolding(output::specs::Output::write_outcome, output::specs::Output::write_output, crate::specs::Show::shown_of, crate::specs::Show::shown_output))]
 pub fn show(
     file: &[u8],
     n: usize,
