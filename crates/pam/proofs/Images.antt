@@ -1,7 +1,7 @@
 -- The laws of an image: a picture that is written behind its header. Assumes nothing.
 use Rattle.std.specs.Prelude.{Option}
 use Prim.Native.Nat.{ℕ, ◌+◌, ◌-◌, ◌≤◌, ◌<◌}
-use mathlib.Core.Path.{◌≡◌, refl, sym, ◌∙◌, ap}
+use mathlib.Core.Path.{◌≡◌, sym, ◌∙◌}
 use mathlib.Core.List.{List, ◌++◌, append_assoc}
 use native.Mathlib.Nat.{zero-add, mul-pos}
 use native.Mathlib.Omega.{arith}
@@ -11,30 +11,24 @@ use lib.Dec.{lit<}
 use lib.Pow.{pow_pos}
 use Rattle.std.proofs.lemmas.List.{drop-append-le, drop-drop}
 use borrow.Rule.Slice.PartMut.{mid_of, post_of, put_mid, mid_len, put_same}
-use Rattle.util.specs.Outcome.{Outcome, result, refusal, ◌>>=◌}
+use Rattle.util.specs.Outcome.{result, ◌>>=◌}
 use Rattle.nds.specs.Params.{width, height}
 use Rattle.errors.specs.Refusal.{refusal_outcome}
 use Rattle.errors.specs.declared.Refusal.{Refusal}
-use Rattle.errors.proofs.Refusals.{refusal_not, refusal_any}
 use Rattle.errors.proofs.Refusals as refusals
 use Rattle.scripts.specs.Script.{run}
 use Rattle.reading.specs.Tex.{read_tex}
 use Rattle.places.specs.Sources.{Sources, sources_of, sources_at, places_of}
 use Rattle.places.specs.declared.Places.{Places}
 use Rattle.places.proofs.Sources.{passed_on, located_sources, located_refused}
-use Rattle.decode.specs.Pictures.{texel_count, picture_length, picture_bytes, ready, decoded}
-use Rattle.decode.proofs.Pictures.{length_picture, picture_found}
-use Rattle.pam.specs.Pam.{header_text, headed, image_of, pam_of}
+use Rattle.decode.specs.Pictures.{texel_count, picture_length, decoded, picture_of}
+use Rattle.decode.proofs.Pictures.{length_picture}
+use Rattle.pam.specs.Pam.{image_of, pam_of}
 
 -- a picture's length
 pub decoded_length : (s : Sources) {picture : List ℕ} → decoded s ≡ result picture → length picture ≡ picture_length s.word
 unfolding decoded ◌>>=◌
-decoded_length s {picture} e = go (ready s.word (length s.parts.data1) (length s.parts.data2) s.palette) refl
-  where
-    go : (o : Outcome (Unit {0})) → ready s.word (length s.parts.data1) (length s.parts.data2) s.palette ≡ o
-        → length picture ≡ picture_length s.word
-    go (result tt) q = let same : picture_bytes s ≡ picture = cc (rw q at e) in ap length (sym same) ∙ length_picture s
-    go (refusal k v) q = absurd (cc (rw q at e))
+decoded_length s e = grind (arith, length_picture)
 
 texels_some : (w : ℕ) → 0 < texel_count w
 unfolding width height
@@ -71,15 +65,8 @@ module _ (n : ℕ) (choice : Option ℕ) (b : List ℕ) where
 
   pub image_located : {places : Places} → result places ≡ places_of n choice b (run read_tex b)
       → pam_of n choice (run read_tex b) ≡ image_of (sources_at b places)
-  unfolding pam_of ◌>>=◌
-  image_located {places} found =
-      let e = located_sources n choice b found in
-      rw (← e, picture_found n choice (run read_tex b) e) (go (decoded (sources_at b places)))
-    where
-      go : (made : Outcome (List ℕ))
-          → (made >>= λ picture. result (header_text places.params.0 ++ picture)) ≡ headed (header_text places.params.0) made
-      go (result picture) = refl
-      go (refusal k v) = refl
+  unfolding pam_of picture_of ◌>>=◌
+  image_located found = grind (arith, located_sources)
 
 -- for the call
 pub ruleset located = (refusals.passed_on, not_located, image_located)
