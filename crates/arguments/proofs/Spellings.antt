@@ -13,20 +13,14 @@ use borrow.Author.Tests.{ltb-true, ltb-false, le-leb}
 use Rattle.text.specs.Text.{decimal_below, decimal}
 use Rattle.arguments.specs.Arguments.{is_digit, all_digits, with_digit, spelled_from, capped, number_of, is_dash, choice_by, choice_of}
 
--- the choice of a palette, by the text's length and its byte
-pub dash_choice : (text : List ℕ) → length text ≡ 1 → get_or text 0 0 ≡ 45 → choice_of text ≡ Some None
-unfolding is_dash choice_of
-dash_choice [] e d = absurd (omega arith)
-dash_choice (b ∷ []) e d = rw d
-dash_choice (b ∷ c ∷ later) e d = absurd (omega arith)
+-- the choice of a palette
+pub no_palette_lem : (text : List ℕ) → is_dash text ≡ true → Some None ≡ choice_of text
+unfolding choice_of
+no_palette_lem text e = rw e
 
-pub number_choice : (text : List ℕ) → (length text ≡ 1 → get_or text 0 0 ≡ 45 → ⊥) → choice_of text ≡ choice_by (number_of text)
-unfolding is_dash choice_of
-number_choice [] n = refl
-number_choice (b ∷ []) n = grind (arith, n refl)
-number_choice (b ∷ c ∷ later) n = refl
-
-pub ruleset choices = (dash_choice, number_choice)
+pub by_number : (text : List ℕ) → is_dash text ≡ false → choice_by (number_of text) ≡ choice_of text
+unfolding choice_of
+by_number text e = rw e
 
 -- what a text comes to behind digits that spell n
 unfoldable pub number_from : (n : ℕ) → List ℕ → Option ℕ

@@ -37,7 +37,7 @@ pub fn parse_number(text: &[u8]) -> Option<usize>
 }
 
 // A palette's number, or `-` for no palette. Other texts spell no choice.
-#[tactic(auto, using(crate::proofs::Spellings::choices))]
+#[tactic(auto, unfolding(crate::specs::Arguments::is_dash, crate::specs::Arguments::choice_of))]
 pub fn parse_choice(text: &[u8]) -> Option<Option<usize>>
     ensures { result ≡ Arguments.choice_of text.now }
 {
