@@ -1,9 +1,9 @@
 -- The laws of what a picture is made from, and of where that is. Assumes nothing.
 use Rattle.std.specs.Prelude.{Option, None, Some}
-use Prim.Native.Nat.{ℕ, ◌≤◌, ◌<◌}
+use Prim.Native.Nat.{ℕ, zero, suc, ◌+◌, ◌≤◌, ◌<◌}
 use mathlib.Core.Path.{◌≡◌, refl, sym, ap, ◌∙◌}
 use mathlib.Core.Bool.{Bool, true, false}
-use mathlib.Core.List.{List}
+use mathlib.Core.List.{List, [], ◌∷◌}
 use native.Mathlib.Omega.{arith}
 use lib.ListN.{length, get_or, take, drop, length-drop}
 use lib.Seq.{length-take-le}
@@ -12,16 +12,19 @@ use borrow.Author.Tests.{ltb-true, ltb-false}
 use Rattle.util.specs.Outcome.{Outcome, result, refusal, ◌>>=◌}
 use Rattle.util.proofs.Takes.{part_there}
 use Rattle.errors.specs.Refusal.{absent_number, refusal_outcome}
+use Rattle.errors.specs.declared.Kind.{Kind}
 use Rattle.errors.specs.declared.Kind.TheVariants as kinds
 use Rattle.errors.specs.declared.Refusal.{Refusal}
 use Rattle.errors.proofs.Refusals.{refusal_not, refusal_any}
 use Rattle.errors.proofs.Refusals as refusals
 use Rattle.scripts.specs.Script.{Answer, short, fault, whole, run, outcome_of}
+use Rattle.info_block.specs.InfoBlock.{list_length}
 use Rattle.reading.specs.Tex as Tex
 use Rattle.reading.specs.Tex.{Contents, header_of, read_pal_block, read_tex}
 use Rattle.nitro.specs.Calls.{entry, texture_entry, part_of, data1_of, data2_of, pal_block_of}
 use Rattle.places.specs.Sources.{Sources, chosen_of, sources_of, sources_at, places_at, places_of, part_at, pal_place_at, pal_place_of}
 use Rattle.reading.specs.Layouts.{layout_of, layout_answer, LaidOut}
+use Rattle.nitro.specs.ByLayout.{layout_with}
 use Rattle.places.specs.ByLayout.{chosen_by, places_by}
 use Rattle.layout.specs.declared.Header.{Header}
 use Rattle.layout.specs.declared.Layout.{Layout}
@@ -29,7 +32,8 @@ use Rattle.layout.specs.declared.Place.{Place}
 use Rattle.places.specs.declared.Places.{Places}
 use Rattle.scripts.proofs.Runs.{bytes_whole, whole_outcome, ended, follows_self, refused}
 use Rattle.reading.proofs.Readings.{finished, textures_listed, palettes_listed, pal_block_whole}
-use Rattle.nitro.proofs.Answers.{entry_in, entry_out, blank_texture, blank_palette}
+use Rattle.reading.proofs.Blocks.{list_within}
+use Rattle.nitro.proofs.Answers.{entry_laid, entry_in, entry_out, blank_texture, blank_palette}
 
 -- the palette block by its place
 pub placed_part : (b : List ℕ) {place : Place} → result place ≡ pal_place_of b (run read_tex b) → part_at b place ≡ pal_block_of (run read_tex b)
@@ -75,8 +79,7 @@ chosen_there b {c} is (Some k) = go (ltb k (length c.palettes)) refl
 -- a refusal is passed on, whatever comes next
 pub passed_on : {A B : Type 0} (r : Refusal) (o : Outcome A) (f : A → Outcome B) → refusal_outcome r ≡ o → refusal_outcome r ≡ (o >>= f)
 unfolding ◌>>=◌
-passed_on r (result a) f e = absurd (refusal_not r e)
-passed_on r (refusal k v) f e = refusal_any r e
+passed_on r o f e = grind arith
 
 -- what a picture of texture n is made from
 module _ (n : ℕ) (choice : Option ℕ) (b : List ℕ) {c : Contents} (is : run read_tex b ≡ whole c) (below : n < length c.textures) where
@@ -126,7 +129,7 @@ module _ (n : ℕ) (choice : Option ℕ) (b : List ℕ) {c : Contents} (is : run
 
   -- for the places that were found
   record PartsThere (places : Places) : Type 0 where
-    sources : result (sources_at b places) ≡ sources_of n choice (run read_tex b)
+    sources_at_lem : result (sources_at b places) ≡ sources_of n choice (run read_tex b)
     first : length (part_at b places.data1) ≡ places.data1.len
     second : length (part_at b places.data2) ≡ places.data2.len
 
@@ -139,7 +142,7 @@ module _ (n : ℕ) (choice : Option ℕ) (b : List ℕ) {c : Contents} (is : run
       go (result p) q =
           let same : places ≡ places_at header this.word p = cc (rw (sources_by q) at e) in
           rw same
-          (record { sources = rw (sources_by q, parts_at p); first = (lengths_at p).0; second = (lengths_at p).1 })
+          (record { sources_at_lem = rw (sources_by q, parts_at p); first = (lengths_at p).0; second = (lengths_at p).1 })
 
 -- the same by the layout that the code has
 module _ (n : ℕ) (choice : Option ℕ) (b : List ℕ) where
@@ -163,6 +166,24 @@ module _ (n : ℕ) (choice : Option ℕ) (b : List ℕ) where
         → refusal_outcome r ≡ places_of n choice b (run read_tex b)
     unfolding layout_answer
     no_palette h r e = let o = ended _ _ laid.is in places_absent n choice b o.is (rw o.gives at h) r (rw o.gives at e)
+
+-- all that a picture of a texture that the block has is made from, by the layout
+pub record SourcesFound (n : ℕ) (choice : Option ℕ) (b : List ℕ) (l : Layout) : Type 0 where
+  pub within : l.header.palette_off + list_length kinds.Palette l.palettes ≤ length b
+  pub there : {p : Option ℕ} → result p ≡ chosen_by b l choice → result (places_by b l n p) ≡ places_of n choice b (run read_tex b)
+  pub absent : (r : Refusal) → refusal_outcome r ≡ chosen_by b l choice → refusal_outcome r ≡ places_of n choice b (run read_tex b)
+
+pub sources_found : (n : ℕ) (choice : Option ℕ) (b : List ℕ) {l : Layout} → result l ≡ layout_with kinds.Texture n b (run read_tex b)
+    → SourcesFound n choice b l
+sources_found n choice b e =
+    let (laid, below) = entry_laid _ _ _ e in
+    record { within = list_within kinds.Palette b laid; there = places_found n choice b laid below; absent = no_palette n choice b laid below }
+
+-- and where it has no such texture
+pub no_sources : (n : ℕ) (choice : Option ℕ) (b : List ℕ) (r : Refusal) (a : Answer Contents)
+    → refusal_outcome r ≡ layout_with kinds.Texture n b a → refusal_outcome r ≡ places_of n choice b a
+unfolding layout_with places_of sources_of outcome_of ◌>>=◌
+no_sources n choice b r a e = grind (arith, entry_out)
 
 -- for the functions that find places
 pub ruleset finds = (
@@ -203,7 +224,7 @@ module _ (n : ℕ) (choice : Option ℕ) (b : List ℕ) {places : Places} (e : r
 
   -- what the parts at the places are
   pub located_sources : result (sources_at b places) ≡ sources_of n choice (run read_tex b)
-  located_sources = there.sources
+  located_sources = there.sources_at_lem
 
   -- and how long the data among them
   pub located_data1 : length (part_at b places.data1) ≡ places.data1.len
@@ -212,42 +233,20 @@ module _ (n : ℕ) (choice : Option ℕ) (b : List ℕ) {places : Places} (e : r
   pub located_data2 : length (part_at b places.data2) ≡ places.data2.len
   located_data2 = there.second
 
+-- an entry by a part of it
+entry_by : {A B : Type 0} (k : Kind) (f : A → B) (xs : List A) (n : ℕ) {a : A} → entry k (λ t. t) xs n ≡ result a → entry k f xs n ≡ result (f a)
+unfolding entry
+entry_by k f [] n e = absurd (cc)
+entry_by k f (x ∷ xs) zero e = ap (λ y. result (f y)) (cc)
+entry_by k f (x ∷ xs) (suc n) e = entry_by k f xs n e
+
 -- and the data among them
 pub sources_data : (n : ℕ) (choice : Option ℕ) (a : Answer Contents) {s : Sources} → result s ≡ sources_of n choice a
     → (s.parts.data1 ≡ data1_of n a) × (s.parts.data2 ≡ data2_of n a)
 unfolding sources_of data1_of data2_of texture_entry outcome_of ◌>>=◌
-sources_data n choice a {s} e = go a refl
-  where
-    no : {A : Type 0} {k v : ℕ} → ◌≡◌ {A = Outcome Sources} (result s) (refusal k v) → A
-    no q = absurd (cc)
-
-    go : (x : Answer Contents) → a ≡ x → (s.parts.data1 ≡ data1_of n a) × (s.parts.data2 ≡ data2_of n a)
-    go (short w) q = no (rw q at e)
-    go (fault f) q = no (rw q at e)
-    go (whole c) q = pick (ltb n (length c.textures)) refl
-      where
-        pick : (t : Bool) → ltb n (length c.textures) ≡ t → (s.parts.data1 ≡ data1_of n a) × (s.parts.data2 ≡ data2_of n a)
-        pick true h = chosen (chosen_of choice c.palettes) refl
-          where
-            below : n < length c.textures
-            below = ltb-true n (length c.textures) h
-
-            chosen : (o : Outcome (Option ℕ)) → chosen_of choice c.palettes ≡ o
-                → (s.parts.data1 ≡ data1_of n a) × (s.parts.data2 ≡ data2_of n a)
-            chosen (refusal k v) p = no (rw (q, entry_in kinds.Texture (λ (t : Tex.Texture). t) c.textures n blank_texture below, p) at e)
-            chosen (result o) p =
-                let same = rw (q, entry_in kinds.Texture (λ (t : Tex.Texture). t) c.textures n blank_texture below, p) at e in
-                let is : s.parts ≡ (get_or c.textures n blank_texture).parts = cc same in (
-                  rw (q, is, entry_in kinds.Texture (λ (t : Tex.Texture). t.parts.data1) c.textures n blank_texture below),
-                  rw (q, is, entry_in kinds.Texture (λ (t : Tex.Texture). t.parts.data2) c.textures n blank_texture below),
-                )
-        pick false h = no (rw (q, entry_out kinds.Texture (λ (t : Tex.Texture). t) c.textures n (ltb-false n (length c.textures) h)) at e)
+sources_data n choice a e = grind (arith, entry_by)
 
 pub located_refused : (n : ℕ) (choice : Option ℕ) (b : List ℕ) (r : Refusal) (a : Answer Contents)
     → refusal_outcome r ≡ places_of n choice b a → refusal_outcome r ≡ sources_of n choice a
 unfolding places_of ◌>>=◌
-located_refused n choice b r a e = go (sources_of n choice a) refl
-  where
-    go : (o : Outcome Sources) → sources_of n choice a ≡ o → refusal_outcome r ≡ sources_of n choice a
-    go (result s) q = absurd (refusal_not r (rw q at e))
-    go (refusal k v) q = rw q (refusal_any r (rw q at e))
+located_refused n choice b r a e = grind arith
