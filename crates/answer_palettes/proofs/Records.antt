@@ -1,9 +1,10 @@
 -- The texts of a record. Assumes nothing.
-use Prim.Native.Nat.{ℕ, ◌≤◌}
+use Prim.Native.Nat.{ℕ, ◌*◌, ◌≤◌}
 use mathlib.Core.Path.{◌≡◌, refl, ap, sym, ◌∙◌}
-use mathlib.Core.List.{List, flat_map}
+use mathlib.Core.List.{List}
 use native.Mathlib.Omega.{arith}
 use lib.ListN.{length, take, length-take}
+use Rattle.std.specs.List.{flat_map}
 use Rattle.std.specs.Prelude.{Result, Ok, Err, IsOk}
 use Rattle.util.specs.Outcome.{result}
 use Rattle.errors.specs.Refusal.{result_outcome}
@@ -12,17 +13,18 @@ use Rattle.errors.proofs.Refusals.{refusal_not}
 use Rattle.output.specs.Output.{Writes}
 use Rattle.output.proofs.Outputs.{outcome_there, output_there, text_there as first_there}
 use Rattle.name.specs.Name.{safe_text, display_text, display_byte, trimmed}
-use Rattle.name.proofs.Texts.{safe_within, display_kept, widths_added, widths_few}
+use Rattle.name.proofs.Texts.{safe_within, trimmed_within, shown_few, shown_all}
 
 -- both texts fit 32 bytes
 pub safe_fits : (name : List ℕ) → length name ≡ 16 → length (safe_text name) ≤ 32
-safe_fits name e = let most : length (safe_text name) ≤ 16 = safe_within name (length (trimmed name)) refl 15 (omega arith) in omega arith
+safe_fits name e = let most : length (safe_text name) ≤ 16 = rw e at (safe_within name) in omega arith
 
 pub display_fits : (name : List ℕ) → length name ≡ 16 → length (display_text name) ≤ 32
+unfolding display_text
 display_fits name e =
     let n : ℕ = length (trimmed name) in
-    let bytes : length (display_text name) ≡ length (flat_map display_byte (take n name)) = ap length (display_kept name n refl) in
-    omega (arith, bytes, widths_added (take n name), widths_few (take n name), length-take n name)
+    let most : length (flat_map display_byte (trimmed name)) ≤ 2 * n = rw (shown_all (trimmed name) n (omega arith)) at (shown_few (trimmed name) n) in
+    omega (arith, trimmed_within name, most)
 
 -- a text that fits is written
 module _ {text entry exit : List ℕ} (answer : Result ℕ Refusal) (w : Writes (result text) entry (result_outcome answer) exit)

@@ -11,7 +11,7 @@ use report::{STDOUT_FILENO, alpha, number, text, wrap};
 pub fn refused(refusal: Refusal) {
     text(b" refused");
     number(refusal.number() as u64);
-    if let Refusal::Short(needed) = refusal {
+    if let Some(needed) = refusal.needed() {
         number(needed as u64);
     }
 }

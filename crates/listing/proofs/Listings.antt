@@ -3,10 +3,13 @@ use Prim.Native.Nat.{ℕ}
 use mathlib.Core.Path.{◌≡◌, refl, sym}
 use mathlib.Core.Bool.{Bool, true, false, cond}
 use mathlib.Core.List.{List, ◌++◌}
+use native.Mathlib.Omega.{arith}
 use lib.ListN.{length}
 use lib.Dec.{ltb}
 use Rattle.util.specs.Outcome.{Outcome, result, refusal}
+use Rattle.errors.specs.Refusal.{refusal_number, refusal_returned, refusal_outcome}
 use Rattle.errors.specs.declared.Kind.TheVariants.{Texture, Palette}
+use Rattle.errors.specs.declared.Refusal.{Refusal}
 use Rattle.scripts.specs.Script.{Answer, short, fault, whole, run, outcome_of}
 use Rattle.reading.specs.Tex.{Contents, read_tex}
 use Rattle.reading.specs.Layouts.{layout_of, layout_answer}
@@ -31,3 +34,9 @@ listing_read b = go (ltb 65536 (length b)) (run read_tex b) refl
     go false (short needed) e = refl
     go false (fault found) e = refl
     go false (whole c) e = sym (lists_whole b e)
+
+-- a reading that is refused is listed as one line
+pub refused_line_lem : (b : List ℕ) (r : Refusal) (a : Answer Contents) → refusal_outcome r ≡ layout_answer b a
+    → printed (outcome_of a λ c. result (lists_of c)) ≡ refused_line (refusal_number r) (refusal_returned r)
+unfolding layout_answer outcome_of
+refused_line_lem b r a e = grind arith

@@ -49,11 +49,10 @@ fn prefix(bytes: &[u8], request: Request) {
     text(b"\n");
 }
 
-// A line for each number of bytes from least to the block's length.
+// A line for each number of bytes from least to the block's length, and for all of them where least is beyond it.
 pub fn prefixes(block: &[u8], least: usize, request: Request) {
     text(b"\n");
-    for n in least..block.len() {
+    for n in least.min(block.len())..=block.len() {
         prefix(&block[..n], request);
     }
-    prefix(block, request);
 }
