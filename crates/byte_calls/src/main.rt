@@ -63,7 +63,7 @@ fn bit_fields() {
     field(b"bits_u8 ", 0xe5u8, 8, 8);
     field(b"bits_u8 ", 0xe5u8, 5, 2);
     field(b"bits_u8 ", 0xe5u8, 0, 9);
-    field(b"bits_u8 ", 0xe5u8, 0, u32::MAX);
+    field(b"bits_u8 ", 0xe5u8, 0, 4294967295);
     field(b"bits_u16 ", 0xabcdu16, 0, 14);
     field(b"bits_u16 ", 0xabcdu16, 14, 16);
     field(b"bits_u16 ", 0xabcdu16, 0, 16);
@@ -74,7 +74,7 @@ fn bit_fields() {
     field(b"bits_u32 ", 0xabcdef00u32, 0, 32);
     field(b"bits_u32 ", 0xabcdef00u32, 31, 32);
     field(b"bits_u32 ", 0xabcdef00u32, 32, 33);
-    field(b"bits_u32 ", 0xabcdef00u32, u32::MAX, 0);
+    field(b"bits_u32 ", 0xabcdef00u32, 4294967295, 0);
 }
 
 // Takes at the buffer's limits.
@@ -88,10 +88,10 @@ fn takes(buf: &[u8]) {
     taken(buf, 8, 0);
     taken(buf, 8, 1);
     taken(buf, 9, 0);
-    taken(buf, usize::MAX, 0);
-    taken(buf, usize::MAX, 1);
-    taken(buf, 1, usize::MAX);
-    taken(buf, usize::MAX, usize::MAX);
+    taken(buf, 18446744073709551615, 0);
+    taken(buf, 18446744073709551615, 1);
+    taken(buf, 1, 18446744073709551615);
+    taken(buf, 18446744073709551615, 18446744073709551615);
 }
 
 // Numbers at the buffer's limits.
@@ -105,7 +105,7 @@ fn numbers(buf: &[u8]) {
     peeked(peek::<u32>(buf, 0));
     peeked(peek::<u32>(buf, 4));
     peeked(peek::<u32>(buf, 5));
-    peeked(peek::<u32>(buf, usize::MAX - 3));
+    peeked(peek::<u32>(buf, 18446744073709551612));
 }
 
 // The same for numbers that are counted from a position on.
@@ -118,10 +118,10 @@ fn nth_numbers(buf: &[u8]) {
     peeked(nth_u16(buf, 6, 0));
     peeked(nth_u16(buf, 7, 0));
     peeked(nth_u16(buf, 9, 0));
-    peeked(nth_u16(buf, 0, u32::MAX));
-    peeked(nth_u16(buf, usize::MAX - 7, 3));
-    peeked(nth_u16(buf, usize::MAX - 7, 4));
-    peeked(nth_u16(buf, usize::MAX, u32::MAX));
+    peeked(nth_u16(buf, 0, 4294967295));
+    peeked(nth_u16(buf, 18446744073709551608, 3));
+    peeked(nth_u16(buf, 18446744073709551608, 4));
+    peeked(nth_u16(buf, 18446744073709551615, 4294967295));
 }
 
 // Runs every call.
