@@ -63,8 +63,8 @@ pub struct FormatDesc {
     pub alpha_desc: AlphaDesc,
 }
 
-// Row n is the format of number n.
-const DESCS: [FormatDesc; 8] = [
+// Row n is the format of number n. A constant that is an array is put together anew at each use; of a reference there is one.
+const DESCS: &[FormatDesc; 8] = &[
     // NoTexture
     FormatDesc {
         requires_palette: false,

@@ -1,5 +1,5 @@
 -- The laws of `take_of`, `taken_part` and `length_of`. Assumes nothing.
-use Prim.Native.Nat.{ℕ, ◌+◌, ◌≤◌, ◌<◌}
+use Prim.Native.Nat.{ℕ, ◌+◌, ◌^◌, ◌%◌, ◌≤◌, ◌<◌}
 use mathlib.Core.Path.{◌≡◌, refl, sym, ap, ◌∙◌}
 use mathlib.Core.Bool.{Bool, true, false, cond}
 use mathlib.Core.List.{List, []}
@@ -9,9 +9,11 @@ use lib.Seq.{length-take-le}
 use lib.Dec.{leb}
 use borrow.Author.Tests.{le-leb, lt-leb, leb-true, leb-false}
 use Rattle.util.proofs.Numbers.{number_in_part}
+use Rattle.std.proofs.Math.Nat.{mod-eq_of_lt}
 use Rattle.util.specs.Outcome.{result, refusal}
 use Rattle.util.specs.Number.{number_at}
-use Rattle.util.specs.Take.{take_of, bytes_of, peek_of, taken_part, taken_to}
+use Rattle.util.specs.Take.{length_of, take_of, bytes_of, peek_of, taken_part, taken_to}
+use Rattle.util.specs.declared.cur.Needed.{Needed}
 
 -- a take that passed: its bytes are there, and its answer is `passed`
 pub record Took {A : Type 0} (len p n : ℕ) (passed answer : A) : Type 0 where
@@ -57,6 +59,11 @@ same_short len p n q m passed other same e =
     let l = lacked len p n passed e in
     let past : len < q + m = omega (arith, l, same) in
     cc (falls_short len q m other past)
+
+-- a needed length that fits 64 bits is what those bits hold, for callers whose positions are small
+module _ (needed : Needed) where
+  pub low_exact : length_of needed < 2 ^ 64 → needed.0 % 2 ^ 64 ≡ length_of needed
+  low_exact h = mod-eq_of_lt h
 
 -- the bytes that a take answers with
 module _ (p n : ℕ) (block : List ℕ) {bytes : List ℕ} (e : result bytes ≡ bytes_of p n block) where

@@ -1,13 +1,11 @@
 // Bit fields of unsigned integers.
-//
-// bits_T(x, lo, hi) is the number that stands in the bits of x from number lo on and below number hi. It is 0 unless lo < hi and hi is
-// at most the width of T.
 ghost use Rattle.std.specs.Prelude.{◌≡◌, ◌≤◌};
 ghost use Rattle.util.specs.Bits.{bit_field};
 
 use crate::unsigned::Unsigned;
 
-// The bits of a number of the given width.
+// The number that stands in the bits of x from number lo on and below number hi, where x has the given width. It is 0 unless lo < hi and hi is at
+// most the width.
 #[tactic(auto, using(crate::proofs::Fields::shift_mask, crate::proofs::Fields::no_bits, crate::proofs::Fields::past_width))]
 fn field(width: u32, x: u32, lo: u32, hi: u32) -> u32
     requires { width ≤ 32 }
@@ -20,6 +18,7 @@ fn field(width: u32, x: u32, lo: u32, hi: u32) -> u32
     }
 }
 
+// The same of a number of type T.
 #[tactic(auto, using(crate::proofs::Fields::field_fits))]
 pub fn bits<T: Unsigned>(x: T, lo: u32, hi: u32) -> T
     ensures { T.number result ≡ bit_field T.BITS (T.number x) lo hi }
