@@ -1,15 +1,12 @@
 -- The laws of texts that are put into an output one behind the other. Assumes nothing.
 use Prim.Native.Nat.{ℕ, ◌+◌, ◌-◌}
-use mathlib.Core.Path.{◌≡◌, refl, ap, ◌∙◌}
+use mathlib.Core.Path.{◌≡◌, refl, ◌∙◌}
 use mathlib.Core.List.{List, [], ◌++◌, append-nil, append_assoc}
 use native.Mathlib.Omega.{arith}
 use lib.ListN.{length, take, drop, length-append, length-drop, length-take}
 use lib.Seq.{take_all, drop-drop, drop-length, sets, sets-eq, length-sets}
 use borrow.Rule.Slice.PartMut.{mid_of, post_of, put_mid, Post-is}
-use Rattle.std.specs.Prelude.{Result, Ok, Err, IsOk}
 use Rattle.util.specs.Outcome.{Outcome, result}
-use Rattle.errors.specs.Refusal.{result_outcome}
-use Rattle.errors.specs.declared.Refusal.{Refusal}
 use Rattle.errors.proofs.Refusals.{refusal_not}
 use Rattle.output.specs.Output.{Writes}
 use Rattle.output.proofs.Outputs.{sets_append, outcome_there, output_there, text_there, outcome_short, output_short, writes_whole}
@@ -64,16 +61,3 @@ part_wrote text entry at r w =
 
 -- for functions that write a text at the start of an output
 pub ruleset whole = (outcome_there, output_there, text_there, outcome_short, output_short, refusal_not, length-sets, length-take)
-
--- so a call that may refuse does not, and the text is there as if put
-module _ {text entry : List ℕ} {at : ℕ} (answer : Result ℕ Refusal) {part : List ℕ} (r : Room text entry at)
-    (w : Writes (result text) (mid_of at (length entry - at) entry) (result_outcome answer) part) where
-  pub part_ok : IsOk answer
-  part_ok = go answer (part_wrote text entry at r w).outcome
-    where
-      go : (answer : Result ℕ Refusal) → result_outcome answer ≡ result (length text) → IsOk answer
-      go (Ok len) e = refl
-      go (Err refused) e = absurd (refusal_not refused e)
-
-  pub part_put : {len : ℕ} → answer ≡ Ok len → Put text entry at (put_mid at (length entry - at) entry part) (at + len)
-  part_put e = let wrote = part_wrote text entry at r w in record { output = wrote.output; behind = ap (λ (n : ℕ). at + n) (cc (rw e at wrote.outcome)) }

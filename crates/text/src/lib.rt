@@ -7,7 +7,6 @@ ghost use Rattle.util.specs.Outcome.{result as answered};
 ghost use Rattle.output.specs.Output.{Writes};
 ghost use Rattle.errors.specs.Refusal.{result_outcome};
 ghost use Rattle.text.specs.Text.{decimal};
-ghost use Rattle.text.specs.Put.{Room, Put};
 ghost use Rattle.text.specs.Writer.{HasRoom, Adds};
 
 use errors::Refusal;
@@ -62,24 +61,4 @@ pub fn write(text: &[u8], out: &mut [u8]) -> Result<usize, Refusal>
     }
     out[..text.len()].copy_from_slice(text);
     Ok(text.len())
-}
-
-// `Writer::put` at a place of an output. The result is the place behind the text.
-pub fn put(out: &mut [u8], at: usize, text: &[u8]) -> usize
-    requires { Room text.now out.old at }
-    ensures { Put text.now out.old at out.new result }
-{
-    let mut writer = Writer { out, at };
-    writer.put(text);
-    writer.at
-}
-
-// `Writer::put_number` at a place of an output. The result is the place behind it.
-pub fn put_number(out: &mut [u8], at: usize, n: usize, end: &[u8]) -> usize
-    requires { Room (decimal n ++ end.now) out.old at }
-    ensures { Put (decimal n ++ end.now) out.old at out.new result }
-{
-    let mut writer = Writer { out, at };
-    writer.put_number(n, end);
-    writer.at
 }
