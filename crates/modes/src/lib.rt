@@ -45,7 +45,7 @@ fn mode_color(palette: Palette, first: u16, mode: u8, texel: u8) -> [u8; 4]
     ensures { result ≡ Texels.mode_color palette.entry.block.now palette.entry.off first mode texel }
 {
     match (mode, texel) {
-        (0 | 1, 3) => [0, 0, 0, 0],
+        (0 | 1, 3) => [0; 4],
         (1, 2) => mix(1, 1, palette.color(first), palette.color(first + 1)),
         (3, 2) => mix(3, 5, palette.color(first + 1), palette.color(first)),
         (3, 3) => mix(3, 5, palette.color(first), palette.color(first + 1)),
