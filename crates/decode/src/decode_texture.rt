@@ -13,7 +13,7 @@ use errors::Refusal;
 use nds::texture_formats::TextureFormat;
 use nds::texture_params::TextureParams;
 use paint::{decode_format1, decode_format2, decode_format3, decode_format4, decode_format6};
-use texels::Palette;
+use texels::{Colors, Palette};
 
 // The number of texels of a picture.
 #[tactic(auto, using(nds::proofs::Sizes::area_lt, nds::proofs::Sizes::width_le, nds::proofs::Sizes::height_le))]
@@ -49,6 +49,20 @@ impl<'a> Texture<'a> {
         self.data1.len() < self.params.byte_len() || self.data2.len() < self.params.byte_len2()
     }
 
+    // The picture's length in bytes.
+    fn picture_len(self) -> usize
+        ensures { result ≡ Pictures.picture_length self.entry.params.0 }
+    {
+        4 * num_texels(self.params)
+    }
+
+    // Whether an output of room bytes is shorter than the picture.
+    fn lacks_room(self, room: usize) -> bool
+        ensures { result ≡ Checks.lacks_room self.entry.params.0 room }
+    {
+        room < self.picture_len()
+    }
+
     // Whether the texture can be decoded, to an output of room bytes.
     #[tactic(auto, using(crate::proofs::Pictures::checks))]
     fn check(self, room: usize) -> Result<(), Refusal>
@@ -63,7 +77,7 @@ impl<'a> Texture<'a> {
         if self.lacks_data() {
             return Err(Refusal::ShortData);
         }
-        if lacks_room(self.params, room) {
+        if self.lacks_room(room) {
             return Err(Refusal::Output);
         }
         Ok(())
@@ -94,17 +108,16 @@ impl<'a> Texture<'a> {
             block: self.pal_block,
             off: self.palette.unwrap_or(0),
         };
-        let clear0 = params.is_color0_transparent();
+        let colors = Colors {
+            palette,
+            clear0: params.is_color0_transparent(),
+        };
         match params.format() {
             TextureFormat::NoTexture => unreachable!(),
             TextureFormat::A3I5 => decode_format1(out, data1, palette),
-            TextureFormat::Palette4 => {
-                decode_format2(out, num_texels(params), data1, palette, clear0)
-            }
-            TextureFormat::Palette16 => {
-                decode_format3(out, num_texels(params), data1, palette, clear0)
-            }
-            TextureFormat::Palette256 => decode_format4(out, data1, palette, clear0),
+            TextureFormat::Palette4 => decode_format2(out, num_texels(params), data1, colors),
+            TextureFormat::Palette16 => decode_format3(out, num_texels(params), data1, colors),
+            TextureFormat::Palette256 => decode_format4(out, data1, colors),
             TextureFormat::Compressed => {
                 let width = params.width() as usize;
                 let height = params.height() as usize;
@@ -116,20 +129,12 @@ impl<'a> Texture<'a> {
     }
 }
 
-// Whether the output is shorter than the picture.
-fn lacks_room(params: TextureParams, room: usize) -> bool
-    ensures { result ≡ Checks.lacks_room params.0 room }
-{
-    room < 4 * num_texels(params)
-}
-
 // Decodes a texture, with a palette where its format needs one, and returns the picture's length in bytes.
 #[tactic(auto, using(crate::proofs::Pictures::ready_if))]
 pub fn decode_texture(texture: Texture, out: &mut [u8]) -> Result<usize, Refusal>
     ensures { Writes (Pictures.decoded (Pictures.sources texture.entry.params.0 texture.entry.data1.now texture.entry.data2.now texture.entry.palette texture.entry.pal_block.now)) out.old (result_outcome result) out.new }
 {
-    let len = 4 * num_texels(texture.params);
     texture.check(out.len())?;
     texture.needed().decode_format(out);
-    Ok(len)
+    Ok(texture.picture_len())
 }

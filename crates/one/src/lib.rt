@@ -8,7 +8,7 @@ ghost use Rattle.texels.specs.Index as Index;
 ghost use Rattle.one.specs.One as One;
 
 use modes::block_color;
-use texels::{Palette, a3_to_a5, direct, index_at, indexed, rgb555a5};
+use texels::{Colors, Palette, a3_to_a5, direct, index_at, rgb555a5};
 use util::unsigned::Unsigned;
 
 // Texel n of format 1.
@@ -23,11 +23,11 @@ pub fn texel1(data1: &[u8], palette: Palette, n: usize) -> [u8; 4]
 
 // Texel n of formats 2 to 4, where a texel has 2, 4 or 8 bits.
 #[tactic(auto, unfolding(texels::specs::Texels::formats2to4))]
-pub fn texel2to4(data1: &[u8], bits: usize, palette: Palette, clear0: bool, n: usize) -> [u8; 4]
+pub fn texel2to4(data1: &[u8], bits: usize, colors: Colors, n: usize) -> [u8; 4]
     requires { Index.IndexThere bits n (length data1.now) }
-    ensures { result ≡ Texels.formats2to4 bits clear0 data1.now palette.entry.block.now palette.entry.off n }
+    ensures { result ≡ Texels.formats2to4 bits colors.entry.clear0 data1.now colors.entry.palette.block.now colors.entry.palette.off n }
 {
-    indexed(palette, index_at(data1, bits, n), clear0)
+    colors.texel(index_at(data1, bits, n))
 }
 
 // Texel n of format 6.

@@ -9,7 +9,7 @@ ghost use Rattle.texels.specs.Texels as Texels;
 ghost use Rattle.paint.specs.Paint as Paint;
 
 use std::array;
-use texels::{Palette, a3_to_a5, extend_5bit_to_8bit, index_at, indexed};
+use texels::{Colors, Palette, a3_to_a5, extend_5bit_to_8bit, index_at};
 
 // Writes texel n of a picture.
 #[tactic(auto, using(texels::proofs::Texels::put_four))]
@@ -38,15 +38,15 @@ pub fn put_texels<F: Fn(usize) -> [u8; 4]>(out: &mut [u8], count: usize, texel: 
 }
 
 // The texels of the colour indices below N.
-fn colors<const N: usize>(palette: Palette, clear0: bool) -> [[u8; 4]; N]
+fn texel_table<const N: usize>(colors: Colors) -> [[u8; 4]; N]
     requires { N ≤ 256 }
-    ensures { Paint.TexelTable (Texels.indexed clear0 palette.entry.block.now palette.entry.off) N result }
+    ensures { Paint.TexelTable (Texels.indexed colors.entry.clear0 colors.entry.palette.block.now colors.entry.palette.off) N result }
 {
     array::from_fn(
         |i|
             requires { i < 256 }
-            ensures { result ≡ Texels.indexed clear0 palette.entry.block.now palette.entry.off i }
-        { indexed(palette, i as u8, clear0) },
+            ensures { result ≡ Texels.indexed colors.entry.clear0 colors.entry.palette.block.now colors.entry.palette.off i }
+        { colors.texel(i as u8) },
     )
 }
 
@@ -77,42 +77,29 @@ fn decode_by_table<const BITS: usize, const N: usize>(
     out: &mut [u8],
     num_texels: usize,
     data1: &[u8],
-    palette: Palette,
-    clear0: bool,
+    colors: Colors,
 )
     requires { Paint.IndexedFits BITS num_texels (length data1.now) (length out.old) × (N ≡ 2 ^ BITS) × (N ≤ 256) }
-    ensures { out.new ≡ Paint.painted (Texels.formats2to4 BITS clear0 data1.now palette.entry.block.now palette.entry.off) num_texels out.old }
+    ensures { out.new ≡ Paint.painted (Texels.formats2to4 BITS colors.entry.clear0 data1.now colors.entry.palette.block.now colors.entry.palette.off) num_texels out.old }
 {
-    let table: [[u8; 4]; N] = colors(palette, clear0);
+    let table: [[u8; 4]; N] = texel_table(colors);
     put_indexed::<BITS>(out, num_texels, data1, &table);
 }
 
 // 4-colour palette texture.
-pub fn decode_format2(
-    out: &mut [u8],
-    num_texels: usize,
-    data1: &[u8],
-    palette: Palette,
-    clear0: bool,
-)
+pub fn decode_format2(out: &mut [u8], num_texels: usize, data1: &[u8], colors: Colors)
     requires { Paint.IndexedFits 2 num_texels (length data1.now) (length out.old) }
-    ensures { out.new ≡ Paint.painted (Texels.formats2to4 2 clear0 data1.now palette.entry.block.now palette.entry.off) num_texels out.old }
+    ensures { out.new ≡ Paint.painted (Texels.formats2to4 2 colors.entry.clear0 data1.now colors.entry.palette.block.now colors.entry.palette.off) num_texels out.old }
 {
-    decode_by_table::<2, 4>(out, num_texels, data1, palette, clear0)
+    decode_by_table::<2, 4>(out, num_texels, data1, colors)
 }
 
 // 16-colour palette texture.
-pub fn decode_format3(
-    out: &mut [u8],
-    num_texels: usize,
-    data1: &[u8],
-    palette: Palette,
-    clear0: bool,
-)
+pub fn decode_format3(out: &mut [u8], num_texels: usize, data1: &[u8], colors: Colors)
     requires { Paint.IndexedFits 4 num_texels (length data1.now) (length out.old) }
-    ensures { out.new ≡ Paint.painted (Texels.formats2to4 4 clear0 data1.now palette.entry.block.now palette.entry.off) num_texels out.old }
+    ensures { out.new ≡ Paint.painted (Texels.formats2to4 4 colors.entry.clear0 data1.now colors.entry.palette.block.now colors.entry.palette.off) num_texels out.old }
 {
-    decode_by_table::<4, 16>(out, num_texels, data1, palette, clear0)
+    decode_by_table::<4, 16>(out, num_texels, data1, colors)
 }
 
 // Writes a texel for each byte of the data, as the closure makes it by the byte.
@@ -168,7 +155,10 @@ pub fn decode_format1(out: &mut [u8], data1: &[u8], palette: Palette)
     requires { 4 * length data1.now ≤ length out.old }
     ensures { out.new ≡ Paint.painted (Texels.format1 data1.now palette.entry.block.now palette.entry.off) (length data1.now) out.old }
 {
-    let table: [[u8; 4]; 32] = colors(palette, false);
+    let table: [[u8; 4]; 32] = texel_table(Colors {
+        palette,
+        clear0: false,
+    });
     decode_bytes(
         out,
         data1,
@@ -179,16 +169,16 @@ pub fn decode_format1(out: &mut [u8], data1: &[u8], palette: Palette)
 }
 
 // 256-colour palette texture. Each byte of the data is a texel.
-pub fn decode_format4(out: &mut [u8], data1: &[u8], palette: Palette, clear0: bool)
+pub fn decode_format4(out: &mut [u8], data1: &[u8], colors: Colors)
     requires { 4 * length data1.now ≤ length out.old }
-    ensures { out.new ≡ Paint.painted (Texels.formats2to4 8 clear0 data1.now palette.entry.block.now palette.entry.off) (length data1.now) out.old }
+    ensures { out.new ≡ Paint.painted (Texels.formats2to4 8 colors.entry.clear0 data1.now colors.entry.palette.block.now colors.entry.palette.off) (length data1.now) out.old }
 {
     decode_bytes(
         out,
         data1,
         |x|
-            ensures { result ≡ Texels.indexed clear0 palette.entry.block.now palette.entry.off x }
-        { indexed(palette, x, clear0) },
+            ensures { result ≡ Texels.indexed colors.entry.clear0 colors.entry.palette.block.now colors.entry.palette.off x }
+        { colors.texel(x) },
     )
 }
 
@@ -197,7 +187,10 @@ pub fn decode_format6(out: &mut [u8], data1: &[u8], palette: Palette)
     requires { 4 * length data1.now ≤ length out.old }
     ensures { out.new ≡ Paint.painted (Texels.format6 data1.now palette.entry.block.now palette.entry.off) (length data1.now) out.old }
 {
-    let table: [[u8; 4]; 8] = colors(palette, false);
+    let table: [[u8; 4]; 8] = texel_table(Colors {
+        palette,
+        clear0: false,
+    });
     decode_bytes(
         out,
         data1,

@@ -59,14 +59,6 @@ pub fn rgb555a5(rgb555: u16, a5: u8) -> [u8; 4]
     ]
 }
 
-// Colour i of the palette at off, or 0 where it is not wholly inside the palette block.
-#[tactic(auto, using(util::proofs::Takes::took, util::proofs::Takes::lacked, util::proofs::Numbers::number_small), unfolding(crate::specs::Texels::palette_color))]
-pub fn palette_color(pal: &[u8], off: u32, i: u16) -> u16
-    ensures { result ≡ Texels.palette_color pal.now off i }
-{
-    nth_u16(pal, off as usize, i as u32).map_or(0, |color| color as u16)
-}
-
 // A palette: the block that it is in, and its offset there.
 #[derive(Clone, Copy)]
 pub struct Palette<'a> {
@@ -75,27 +67,37 @@ pub struct Palette<'a> {
 }
 
 impl<'a> Palette<'a> {
-    // Colour i.
+    // Colour i, or 0 where it is not wholly inside the palette block.
+    #[tactic(auto, using(util::proofs::Takes::took, util::proofs::Takes::lacked), unfolding(crate::specs::Texels::palette_color))]
     pub fn color(self, i: u16) -> u16
         ensures { result ≡ Texels.palette_color self.entry.block.now self.entry.off i }
     {
-        palette_color(self.block, self.off, i)
+        nth_u16(self.block, self.off as usize, u32::from(i)).unwrap_or(0)
     }
 }
 
-// The alpha of a texel of formats 2 to 4 by its colour index. Where clear0 is set, colour 0 is clear.
-fn index_alpha(i: u8, clear0: bool) -> u8
-    ensures { (result ≡ Texels.index_alpha clear0 i) × (result < 32) }
-{
-    if clear0 && i == 0 { 0 } else { 31 }
+// The colours of formats 2 to 4: a palette, and whether its colour 0 is clear.
+#[derive(Clone, Copy)]
+pub struct Colors<'a> {
+    pub palette: Palette<'a>,
+    pub clear0: bool,
 }
 
-// A texel of formats 2 to 4 by its colour index.
-#[tactic(auto, unfolding(crate::specs::Texels::indexed))]
-pub fn indexed(palette: Palette, i: u8, clear0: bool) -> [u8; 4]
-    ensures { result ≡ Texels.indexed clear0 palette.entry.block.now palette.entry.off i }
-{
-    rgb555a5(palette.color(i as u16), index_alpha(i, clear0))
+impl<'a> Colors<'a> {
+    // The alpha of colour i.
+    fn alpha(self, i: u8) -> u8
+        ensures { (result ≡ Texels.index_alpha self.entry.clear0 i) × (result < 32) }
+    {
+        if self.clear0 && i == 0 { 0 } else { 31 }
+    }
+
+    // A texel whose colour index is i.
+    #[tactic(auto, unfolding(crate::specs::Texels::indexed))]
+    pub fn texel(self, i: u8) -> [u8; 4]
+        ensures { result ≡ Texels.indexed self.entry.clear0 self.entry.palette.block.now self.entry.palette.off i }
+    {
+        rgb555a5(self.palette.color(u16::from(i)), self.alpha(i))
+    }
 }
 
 // The colour index of texel n, where a texel has 2, 4 or 8 bits.

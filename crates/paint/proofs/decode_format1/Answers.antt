@@ -8,4 +8,4 @@ pub returns : goal.returns
 unfolding format1
 returns c =
     let p = c.args.palette in
-    c.decode_bytes.ensures (a3i5 p.block.now p.off) (λ b made h post. post ∙ a3i5_texel _ _ _ h c.colors-table.ensures)
+    c.decode_bytes.ensures (a3i5 p.block.now p.off) (λ b made h post. post ∙ a3i5_texel _ _ _ h c.texel_table-table.ensures)

@@ -9,6 +9,6 @@ pub returns : goal.returns
 unfolding formats2to4
 returns c =
     let a = c.args in
-    let color = indexed a.clear0 a.palette.block.now a.palette.off in
+    let color = indexed a.colors.clear0 a.colors.palette.block.now a.colors.palette.off in
     c.decode_bytes.ensures color (λ b made h post. post)
     ∙ painted_same _ _ _ (λ i. ap color (sym (texel_byte a.data1.now i (c.type_inv.data1 i).fits))) refl

@@ -8,4 +8,4 @@ pub returns : goal.returns
 unfolding format6
 returns c =
     let p = c.args.palette in
-    c.decode_bytes.ensures (a5i3 p.block.now p.off) (λ b made h post. post ∙ a5i3_texel _ _ _ h c.colors-table.ensures)
+    c.decode_bytes.ensures (a5i3 p.block.now p.off) (λ b made h post. post ∙ a5i3_texel _ _ _ h c.texel_table-table.ensures)

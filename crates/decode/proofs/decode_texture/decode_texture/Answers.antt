@@ -15,4 +15,4 @@ pub returns : goal.returns
 returns c =
     let t = c.args.texture in
     let passed : Ready t.params.0 (length t.data1.now) (length t.data2.now) t.palette (length c.args.out.now) = ready_if _ _ _ _ _ c.in_ok-check.ensures in
-    rw c.num_texels-len.ensures.0 (writes_needed _ _ _ c.needed.ensures passed.is passed.decodable c.decode_format.ensures)
+    rw c.picture_len.ensures (writes_needed _ _ _ c.needed.ensures passed.is passed.decodable c.decode_format.ensures)

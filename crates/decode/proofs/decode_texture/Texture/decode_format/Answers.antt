@@ -33,17 +33,17 @@ returns-in-A5I3 c = rw c.unwrap_or.ensures at c.decode_format6.ensures ∙ paint
 
 pub returns-in-Palette4 : goal.returns-in-Palette4
 returns-in-Palette4 c =
-    rw (c.unwrap_or.ensures, c.is_color0_transparent-clear0.ensures) at c.decode_format2.ensures
+    rw (c.unwrap_or.ensures, c.is_color0_transparent.ensures) at c.decode_format2.ensures
     ∙ painted_by 2 _ (sym c.in-Palette4.ensures) _ c.num_texels.ensures.0
 
 pub returns-in-Palette16 : goal.returns-in-Palette16
 returns-in-Palette16 c =
-    rw (c.unwrap_or.ensures, c.is_color0_transparent-clear0.ensures) at c.decode_format3.ensures
+    rw (c.unwrap_or.ensures, c.is_color0_transparent.ensures) at c.decode_format3.ensures
     ∙ painted_by 3 _ (sym c.in-Palette16.ensures) _ c.num_texels-in-Palette16.ensures.0
 
 pub returns-in-Palette256 : goal.returns-in-Palette256
 returns-in-Palette256 c =
-    rw (c.unwrap_or.ensures, c.is_color0_transparent-clear0.ensures) at c.decode_format4.ensures
+    rw (c.unwrap_or.ensures, c.is_color0_transparent.ensures) at c.decode_format4.ensures
     ∙ painted_by 4 _ (sym c.in-Palette256.ensures) _ (bytes_fit c.requires (sym c.in-Palette256.ensures) refl).0
 
 pub returns-in-Compressed : goal.returns-in-Compressed
