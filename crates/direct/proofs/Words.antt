@@ -1,43 +1,30 @@
 -- The laws of a texel of format 7 by the two bytes of its colour. Assumes nothing.
-use Prim.Native.Nat.{ℕ, ◌+◌, ◌*◌, ◌/◌, ◌%◌, ◌≤◌, ◌<◌}
-use mathlib.Core.Path.{◌≡◌, refl, ap, ◌∙◌}
+use Prim.Native.Nat.{ℕ, zero, suc, ◌+◌, ◌*◌, ◌/◌, ◌%◌, ◌≤◌, ◌<◌}
+use mathlib.Core.Path.{◌≡◌, refl, ◌∙◌}
 use mathlib.Core.Bool.{Bool, true, false}
 use mathlib.Core.List.{List, [], ◌∷◌}
 use native.Mathlib.Omega.{arith}
 use lib.ListN.{length, get_or}
 use lib.Dec.{eqb}
 use borrow.Author.Tests.{eqb-true, eqb-false}
+use Rattle.std.specs.Int.{w32, to_le_bytes}
+use Rattle.std.proofs.lemmas.Nat.{le_bytes_4}
 use Rattle.util.specs.Number.{number_at}
 use Rattle.util.proofs.Numbers.{number_one, number_add}
 use Rattle.texels.specs.Texels.{widen, pixel, direct, direct_alpha}
-use Rattle.direct.specs.Words.{low_word, high_word, quad_of}
+use Rattle.direct.specs.Words.{low_word, high_word}
 
 -- the four bytes that a number is made of
-byte_first : (r q : ℕ) → r < 256 → (r + 256 * q) % 256 ≡ r
-byte_first r q h = omega arith
+module _ (r g b a : ℕ) (hr : r < 256) (hg : g < 256) (hb : b < 256) (ha : a < 256) where
+  small : (i : ℕ) → get_or (r ∷ g ∷ b ∷ a ∷ []) i 0 < 256
+  small zero = hr
+  small (suc zero) = hg
+  small (suc (suc zero)) = hb
+  small (suc (suc (suc zero))) = ha
+  small (suc (suc (suc (suc i)))) = omega arith
 
-byte_rest : (r q : ℕ) → r < 256 → (r + 256 * q) / 256 ≡ q
-byte_rest r q h = omega arith
-
-quad_steps : (w : ℕ) → quad_of w ≡ w % 256 ∷ w / 256 % 256 ∷ w / 256 / 256 % 256 ∷ w / 256 / 256 / 256 % 256 ∷ []
-quad_steps w =
-    let two : w / 65536 ≡ w / 256 / 256 = omega arith in
-    let three : w / 16777216 ≡ w / 256 / 256 / 256 = omega arith in
-    rw (two, three)
-
-quad_bytes : (r g b a : ℕ) → r < 256 → g < 256 → b < 256 → a < 256 → quad_of (r + 256 * (g + 256 * (b + 256 * a))) ≡ r ∷ g ∷ b ∷ a ∷ []
-quad_bytes r g b a hr hg hb ha =
-    let last : a % 256 ≡ a = omega arith in
-    quad_steps (r + 256 * (g + 256 * (b + 256 * a)))
-    ∙ rw (
-      byte_first r (g + 256 * (b + 256 * a)) hr,
-      byte_rest r (g + 256 * (b + 256 * a)) hr,
-      byte_first g (b + 256 * a) hg,
-      byte_rest g (b + 256 * a) hg,
-      byte_first b a hb,
-      byte_rest b a hb,
-      last,
-    )
+  quad_bytes : (n : ℕ) → n ≡ r + 256 * (g + 256 * (b + 256 * a)) → to_le_bytes w32 n ≡ r ∷ g ∷ b ∷ a ∷ []
+  quad_bytes n is = le_bytes_4 (r ∷ g ∷ b ∷ a ∷ []) n refl small (omega arith)
 
 widen_small : (v : ℕ) → v < 32 → widen v < 256
 widen_small v h = omega arith
@@ -77,18 +64,19 @@ module _ (lo hi : ℕ) (low : lo < 256) (high : hi < 256) where
   alpha_is : (lo + 256 * hi) / 32768 % 2 ≡ 32768 * (hi / 128) / 32768 % 2
   alpha_is = omega arith
 
-  pub direct_word : quad_of (low_word lo + high_word hi) ≡ direct (lo + 256 * hi)
+  pub direct_word : to_le_bytes w32 (low_word lo + high_word hi) ≡ direct (lo + 256 * hi)
   unfolding pixel
   direct_word =
       let l = lo / 32 in
       let u = hi % 4 in
       let below : l < 8 = omega arith in
-      ap quad_of (word_sum (widen (lo % 32)) (widen l) u (widen (hi / 4 % 32)) (255 * (hi / 128)))
-      ∙ (quad_bytes (widen (lo % 32)) (widen l + 66 * u) (widen (hi / 4 % 32)) (255 * (hi / 128)) (widen_small _ (omega arith))
+      quad_bytes (widen (lo % 32)) (widen l + 66 * u) (widen (hi / 4 % 32)) (255 * (hi / 128)) (widen_small _ (omega arith))
       (parts_small l u below (omega arith))
       (widen_small _ (omega arith))
       (omega arith)
-      ∙ rw (widen_parts l u below, widen_bit (hi / 128) (omega arith), red_is, green_is, blue_is, alpha_is))
+      _
+      (word_sum (widen (lo % 32)) (widen l) u (widen (hi / 4 % 32)) (255 * (hi / 128)))
+      ∙ rw (widen_parts l u below, widen_bit (hi / 128) (omega arith), red_is, green_is, blue_is, alpha_is)
 
 -- a number of two bytes
 pub number_two : (p : ℕ) (b : List ℕ) → p + 2 ≤ length b → get_or b p 0 + 256 * get_or b (p + 1) 0 ≡ number_at 2 p b

@@ -32,19 +32,19 @@ fn decode_small_format7(out: &mut [u8], data1: &[u8])
 fn low_word(b: u8) -> u32
     ensures { result ≡ Words.low_word b }
 {
-    let red = u32::from(extend_5bit_to_8bit(b & 31));
-    let green = u32::from(extend_5bit_to_8bit(b >> 5));
-    red + 256 * green
+    let red = extend_5bit_to_8bit(b & 31);
+    let green = extend_5bit_to_8bit(b >> 5);
+    u32::from_le_bytes([red, green, 0, 0])
 }
 
 // What the high byte of a colour gives of its texel's bytes, as a number.
 fn high_word(b: u8) -> u32
     ensures { result ≡ Words.high_word b }
 {
-    let green = 66 * u32::from(b & 3);
-    let blue = u32::from(extend_5bit_to_8bit((b >> 2) & 31));
-    let alpha = 255 * u32::from(b >> 7);
-    256 * green + 65536 * blue + 16777216 * alpha
+    let green = 66 * (b & 3);
+    let blue = extend_5bit_to_8bit((b >> 2) & 31);
+    let alpha = 255 * (b >> 7);
+    u32::from_le_bytes([0, green, blue, alpha])
 }
 
 // The words of all low bytes.
@@ -71,20 +71,13 @@ fn high_words() -> [u32; 256]
     )
 }
 
-// The bytes of a texel by their number.
-fn quad_of(word: u32) -> [u8; 4]
-    ensures { result ≡ Words.quad_of word }
-{
-    word.to_le_bytes()
-}
-
 // A texel of format 7 by the two bytes of its colour.
 #[tactic(auto, using(crate::proofs::Words::direct_word))]
 fn direct_by(lows: &[u32], highs: &[u32], lo: u8, hi: u8) -> [u8; 4]
     requires { Paint.Tabled Words.low_word lows.now × Paint.Tabled Words.high_word highs.now }
     ensures { result ≡ Texels.direct (lo + 256 * hi) }
 {
-    quad_of(lows[lo as usize] + highs[hi as usize])
+    (lows[lo as usize] + highs[hi as usize]).to_le_bytes()
 }
 
 // Direct colour texture, by a table for each byte of a colour.
