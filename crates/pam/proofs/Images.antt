@@ -1,7 +1,7 @@
 -- The laws of an image: a picture that is written behind its header. Assumes nothing.
 use Rattle.std.specs.Prelude.{Option}
-use Prim.Native.Nat.{ℕ, ◌+◌, ◌-◌, ◌≤◌, ◌<◌}
-use mathlib.Core.Path.{◌≡◌, sym, ◌∙◌}
+use Prim.Native.Nat.{ℕ, ◌+◌, ◌-◌, ◌≤◌, ◌<◌, min}
+use mathlib.Core.Path.{◌≡◌, refl, sym, ◌∙◌}
 use mathlib.Core.List.{List, ◌++◌, append_assoc}
 use native.Mathlib.Nat.{zero-add, mul-pos}
 use native.Mathlib.Omega.{arith}
@@ -11,11 +11,13 @@ use lib.Dec.{lit<}
 use lib.Pow.{pow_pos}
 use Rattle.std.proofs.lemmas.List.{drop-append-le, drop-drop}
 use borrow.Rule.Slice.PartMut.{mid_of, post_of, put_mid, mid_len, put_same}
-use Rattle.util.specs.Outcome.{result, ◌>>=◌}
+use Rattle.util.specs.Outcome.{Outcome, result, refusal, ◌>>=◌}
 use Rattle.nds.specs.Params.{width, height}
 use Rattle.errors.specs.Refusal.{refusal_outcome}
 use Rattle.errors.specs.declared.Refusal.{Refusal}
 use Rattle.errors.proofs.Refusals as refusals
+use Rattle.output.specs.Output.{write_outcome, write_output, Writes}
+use Rattle.output.proofs.Outputs.{refused_keeps}
 use Rattle.scripts.specs.Script.{run}
 use Rattle.reading.specs.Tex.{read_tex}
 use Rattle.places.specs.Sources.{Sources, sources_of, sources_at, places_of}
@@ -23,7 +25,7 @@ use Rattle.places.specs.declared.Places.{Places}
 use Rattle.places.proofs.Sources.{passed_on, located_sources, located_refused}
 use Rattle.decode.specs.Pictures.{texel_count, picture_length, decoded, picture_of}
 use Rattle.decode.proofs.Pictures.{length_picture}
-use Rattle.pam.specs.Pam.{image_of, pam_of}
+use Rattle.pam.specs.Pam.{headed, image_of, pam_of}
 
 -- a picture's length
 pub decoded_length : (s : Sources) {picture : List ℕ} → decoded s ≡ result picture → length picture ≡ picture_length s.word
@@ -54,8 +56,39 @@ header_before header picture entry at is h =
     ∙ rw (zero-add, drop_at (take at entry) (later ++ post_of at count entry) (length header) front)
     (rw (append_assoc picture (drop (length picture) part) (post_of at count entry), rest, length-append, is) (sym (append_assoc header picture _)))
 
+-- a header in front of what a call writes to the output's part behind it
+module _ (header entry : List ℕ) (made : Outcome (List ℕ)) {at : ℕ} (is : at ≡ min (length header) (length entry)) where
+  part_length : length (mid_of at (length entry - at) entry) ≡ length entry - at
+  part_length = mid_len at (length entry) entry (omega arith)
+
+  -- a refusal is passed on, and no byte has changed
+  pub headed_refused : {part : List ℕ} (r : Refusal) → Writes made (mid_of at (length entry - at) entry) (refusal_outcome r) part
+      → Writes (headed header made) entry (refusal_outcome r) (put_mid at (length entry - at) entry part)
+  unfolding write_outcome write_output
+  headed_refused {part} r w = rw (refused_keeps w, put_same) (go made w.outcome)
+    where
+      go : (made : Outcome (List ℕ)) → refusal_outcome r ≡ write_outcome made (mid_of at (length entry - at) entry)
+          → Writes (headed header made) entry (refusal_outcome r) entry
+      go (refusal k v) e = grind (arith, e)
+      go (result picture) e = grind (arith, e, part_length, length-append)
+
+  -- what was written, where it was: the header has room before it
+  pub record Behind (len : ℕ) : Type 0 where
+    pub picture : List ℕ
+    pub made_is : made ≡ result picture
+    pub counted : len ≡ length picture
+    pub fits : length picture ≤ length entry - at
+
+  pub behind : {len : ℕ} {part : List ℕ} → Writes made (mid_of at (length entry - at) entry) (result len) part → Behind len
+  unfolding write_outcome
+  behind {len} w = go made refl
+    where
+      go : (o : Outcome (List ℕ)) → made ≡ o → Behind len
+      go (refusal k v) q = absurd (cc (rw q at w.outcome))
+      go (result picture) q = record { picture = picture; made_is = q; counted = grind (arith, w, part_length); fits = grind (arith, w, part_length) }
+
 -- for the function that puts both
-pub ruleset images = (refusals.passed_on, put_same, mid_len, header_before, picture_some, length-append)
+pub ruleset images = (refusals.passed_on, headed_refused, put_same, mid_len, header_before, picture_some, length-append)
 
 -- an image, by what was located
 module _ (n : ℕ) (choice : Option ℕ) (b : List ℕ) where

@@ -39,13 +39,12 @@ fn put_header(writer: &mut Writer<'_>, params: TextureParams)
 }
 
 // How many digits a number has.
-#[tactic(auto, using(text::proofs::Decimals::decimal_digits))]
+#[tactic(auto, using(crate::proofs::Headers::digits_of_none, crate::proofs::Headers::digits_by_power))]
 fn digit_count(n: usize) -> usize
     ensures value { result ≡ length (decimal n) }
     ensures upper_bound { result ≤ 20 }
 {
-    let mut digits = [0u8; 20];
-    io::decimal(n as u64, &mut digits)
+    n.checked_ilog10().map_or(1, |log| log as usize + 1)
 }
 
 // The header's length: 63 bytes, and the digits of the width and of the height.
