@@ -117,6 +117,14 @@ module _ {A B : Type 0} (call : Call A B)
       let waits = waiting (scripted output) (prefix_law read_tex (scripted output)) b kept is needs in
       (waits.past, (leaves ∙ waits.kept, waits.again within refl refl))
 
+-- the loop keeps its last attempt: on the block's first `given` bytes, behind `count` short answers, it answered `o` and left `left`
+pub record Attempted {A B : Type 0} (call : Call A B) (b : List ℕ) (output : B) (o : Outcome A) (left : B) (count : ℕ) : Type 0 where
+  pub given : ℕ
+  pub kept : Fetching b given count
+  pub scripted : (output : B) → Scripted read_tex (λ b. call.answer b output) (λ b. call.leaves b output) output
+  pub is : o ≡ call.answer (take given b) output
+  pub leaves : left ≡ call.leaves (take given b) output
+
 -- a fetching picture that ends in a refusal leaves every byte of the output as it was
 pub fetched_keeps : (n : ℕ) (choice : Option ℕ) {block output left : List ℕ} {number returned count : ℕ}
     → Fetched (picture_call n choice) block output (refusal number returned) left count → left ≡ output

@@ -5,7 +5,6 @@ ghost use Rattle.reading.specs.Tex.{read_tex};
 ghost use Rattle.laws.proofs.Calls.{Scripted};
 ghost use Rattle.stream.specs.Fetch as Fetch;
 
-use crate::shortness::shortness;
 use errors::Refusal;
 
 #[derive(Clone, Copy, Debug, PartialEq, Eq)]
@@ -34,24 +33,17 @@ pub(crate) trait Attempt {
 pub(crate) fn fetch<C: Attempt>(call: &C, block: &[u8], out: &mut [u8]) -> Fetched<C::Answer>
     ensures { Fetch.Fetched (C.call call.now) block.now out.old (result_outcome result.answer) out.new result.short_answers }
 {
-    let len = block.len();
-    let mut given: usize = 0;
+    let mut answer = call.attempt(&[], out);
     let mut short_answers: usize = 0;
-    loop {
-        let answer = call.attempt(&block[..given], out);
-        let Some(needed) = shortness(answer) else {
-            return Fetched {
-                answer,
-                short_answers,
-            };
-        };
+    while let Some(needed) = answer.err().and_then(Refusal::needed) {
         short_answers += 1;
-        if needed > len {
-            return Fetched {
-                answer,
-                short_answers,
-            };
-        }
-        given = needed;
+        let Some(first) = block.get(..needed) else {
+            break;
+        };
+        answer = call.attempt(first, out);
+    }
+    Fetched {
+        answer,
+        short_answers,
     }
 }

@@ -6,6 +6,5 @@
 mod fetch;
 pub mod fetch_picture;
 pub mod fetch_tex;
-mod shortness;
 
 pub use fetch::Fetched;
