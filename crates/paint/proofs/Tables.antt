@@ -17,18 +17,24 @@ use Rattle.paint.specs.Paint.{painted, with_alpha, pixel_at, indexed_texel, Tabl
 use Rattle.texels.specs.Index.{IndexThere}
 use Rattle.texels.proofs.Index.{row_below, texel_lt}
 
--- a table of what a closure that stays as it is gives for each number
+-- a table of what a closure that stays as it is may give for each number
+module _ {F A : Type 0} (none : A) (made : ℕ → A → Type 0) (n : ℕ) (g : Mut F (ℕ × Unit {0}) A) (f : F)
+    (step : (i : ℕ) (x : A) (later : F) → i < n → Called g f (i, tt) x later → made i x × (later ≡ f)) (table : List A) where
+  calls_from : (m i : ℕ) → i + m ≡ n → IsFromFnResultFrom g f table i m → (k : ℕ) → k < m → made (i + k) (get_or table (i + k) none)
+  calls_from zero i e calls k h = absurd (not-suc-le-zero h)
+  calls_from (suc m) i e (later, x, is, call, calls) zero h = rw (add-zero, is.1 none) (step i x later (omega arith) call).0
+  calls_from (suc m) i e (later, x, is, call, calls) (suc k) h =
+      let next : i + suc k ≡ i + 1 + k = omega arith in
+      rw next (calls_from m (i + 1) (omega arith) (rw (step i x later (omega arith) call).1 at calls) k (omega arith))
+
+  pub made_of : IsFromFnResult g f table n → (k : ℕ) → k < n → made k (get_or table k none)
+  made_of calls k h = rw zero-add at (calls_from n 0 (zero-add n) calls.each k h)
+
+-- and where it gives one thing alone
 module _ {F A : Type 0} (none : A) (rule : ℕ → A) (n : ℕ) (g : Mut F (ℕ × Unit {0}) A) (f : F)
     (step : (i : ℕ) (made : A) (later : F) → i < n → Called g f (i, tt) made later → (made ≡ rule i) × (later ≡ f)) (table : List A) where
-  calls_from : (m i : ℕ) → i + m ≡ n → IsFromFnResultFrom g f table i m → (k : ℕ) → k < m → get_or table (i + k) none ≡ rule (i + k)
-  calls_from zero i e calls k h = absurd (not-suc-le-zero h)
-  calls_from (suc m) i e (later, made, is, call, calls) zero h = rw add-zero (is.1 none ∙ (step i made later (omega arith) call).0)
-  calls_from (suc m) i e (later, made, is, call, calls) (suc k) h =
-      let next : i + suc k ≡ i + 1 + k = omega arith in
-      rw next (calls_from m (i + 1) (omega arith) (rw (step i made later (omega arith) call).1 at calls) k (omega arith))
-
   pub table_of : IsFromFnResult g f table n → TableOf none rule n table
-  table_of calls = record { long = calls.long; at = λ k h. rw zero-add at (calls_from n 0 (zero-add n) calls.each k h) }
+  table_of calls = record { long = calls.long; at = made_of none (λ i x. x ≡ rule i) n g f step table calls }
 
 -- formats 2 to 4: the texel is in the table
 module _ (bits : ℕ) (texels : List ℕ) (table : List (List ℕ)) (n : ℕ) where

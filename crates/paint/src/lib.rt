@@ -106,7 +106,7 @@ pub fn decode_format3(out: &mut [u8], num_texels: usize, data1: &[u8], colors: C
 fn put_bytes<F: Fn(u8) -> [u8; 4]>(out: &mut [u8], data1: &[u8], texel: F)
     requires room { 4 * length data1.now ≤ length out.old }
     requires callable { F.IsAlwaysCallable texel }
-    ensures { (f : ℕ → List ℕ) → Paint.Makes (F.post texel) 256 f → out.new ≡ Paint.painted (λ n. f (slice_index data1.now n)) (length data1.now) out.old }
+    ensures { (f : ℕ → List ℕ) → Paint.Makes (λ n. F.post texel (slice_index data1.now n)) (length data1.now) f → out.new ≡ Paint.painted f (length data1.now) out.old }
 {
     put_texels(
         out,
@@ -122,7 +122,7 @@ fn put_bytes<F: Fn(u8) -> [u8; 4]>(out: &mut [u8], data1: &[u8], texel: F)
 fn decode_bytes<F: Fn(u8) -> [u8; 4]>(out: &mut [u8], data1: &[u8], texel: F)
     requires room { 4 * length data1.now ≤ length out.old }
     requires callable { F.IsAlwaysCallable texel }
-    ensures { (f : ℕ → List ℕ) → Paint.Makes (F.post texel) 256 f → out.new ≡ Paint.painted (λ n. f (slice_index data1.now n)) (length data1.now) out.old }
+    ensures { (f : ℕ → List ℕ) → Paint.Makes (λ n. F.post texel (slice_index data1.now n)) (length data1.now) f → out.new ≡ Paint.painted f (length data1.now) out.old }
 {
     if data1.len() < 512 {
         return put_bytes(out, data1, texel);
@@ -151,6 +151,7 @@ fn with_alpha(pixel: [u8; 4], a5: u8) -> [u8; 4]
 }
 
 // A3I5 translucent texture: 3-bit alpha, 5-bit colour index. Each byte of the data is a texel.
+#[tactic(auto, using(crate::proofs::Tables::a3i5_texel), unfolding(texels::specs::Texels::format1))]
 pub fn decode_format1(out: &mut [u8], data1: &[u8], palette: Palette)
     requires { 4 * length data1.now ≤ length out.old }
     ensures { out.new ≡ Paint.painted (Texels.format1 data1.now palette.entry.block.now palette.entry.off) (length data1.now) out.old }
@@ -169,6 +170,7 @@ pub fn decode_format1(out: &mut [u8], data1: &[u8], palette: Palette)
 }
 
 // 256-colour palette texture. Each byte of the data is a texel.
+#[tactic(auto, using(texels::proofs::Texels::texel_byte), unfolding(texels::specs::Texels::formats2to4))]
 pub fn decode_format4(out: &mut [u8], data1: &[u8], colors: Colors)
     requires { 4 * length data1.now ≤ length out.old }
     ensures { out.new ≡ Paint.painted (Texels.formats2to4 8 colors.entry.clear0 data1.now colors.entry.palette.block.now colors.entry.palette.off) (length data1.now) out.old }
@@ -183,6 +185,7 @@ pub fn decode_format4(out: &mut [u8], data1: &[u8], colors: Colors)
 }
 
 // A5I3 translucent texture: 5-bit alpha, 3-bit colour index. Each byte of the data is a texel.
+#[tactic(auto, using(crate::proofs::Tables::a5i3_texel), unfolding(texels::specs::Texels::format6))]
 pub fn decode_format6(out: &mut [u8], data1: &[u8], palette: Palette)
     requires { 4 * length data1.now ≤ length out.old }
     ensures { out.new ≡ Paint.painted (Texels.format6 data1.now palette.entry.block.now palette.entry.off) (length data1.now) out.old }
