@@ -1,6 +1,6 @@
 -- 01, "Pixels": "Data beyond the needed length is ignored." Assumes nothing.
 use Prim.Native.Nat.{ℕ, ◌+◌, ◌*◌, ◌/◌, ◌%◌, ◌≤◌, ◌<◌}
-use mathlib.Core.Path.{◌≡◌, refl, ◌∙◌}
+use mathlib.Core.Path.{◌≡◌, refl, sym, ◌∙◌}
 use mathlib.Core.Bool.{Bool, true, false}
 use mathlib.Core.List.{List}
 use native.Mathlib.Nat.{zero-add, mul_comm, mod-lt, div-lt_iff_lt-mul}
@@ -18,10 +18,10 @@ use Rattle.nds.specs.Formats.{data_length, second_length}
 use Rattle.places.specs.Sources.{Sources}
 use Rattle.texels.specs.Texels.{texel_bits, block_of, format1, formats2to4, format5, format6, format7}
 use Rattle.paint.specs.Paint.{painted}
-use Rattle.decode.specs.Checks.{Decodable, Exact}
+use Rattle.decode.specs.Checks.{Decodable, checked}
 use Rattle.decode.specs.Pictures.{texel_count, picture_length, texel, picture_bytes, lacks_palette, ready, decoded, needed}
-use Rattle.decode.proofs.Pictures.{writes_decoded, eights, length_by, second_by, texel_by}
-use Rattle.output.specs.Output.{Writes}
+use Rattle.decode.proofs.Pictures.{Ready, ready_if, writes_decoded, eights, length_by, second_by, texel_by}
+use Rattle.output.specs.Output.{Writes, write_outcome, write_output}
 use Rattle.output.proofs.Outputs.{pieces_same}
 use Rattle.compressed.proofs.Rows.{mul_below}
 
@@ -32,16 +32,6 @@ cut_short m l = go (ltb (length l) m) refl
     go : (t : Bool) → ltb (length l) m ≡ t → ltb (length (take m l)) m ≡ t
     go true e = rw (take_all m l (omega (arith, ltb-true (length l) m e))) e
     go false e = rw (length-take-le m l (ltb-false (length l) m e)) (le-ltb m m (omega arith))
-
--- the data that are needed are as long as the word says
-pub needed_exact : (s t : Sources) {output : ℕ} → t ≡ needed s → Decodable s.word (length s.parts.data1) (length s.parts.data2) output
-    → Exact t.word (length t.parts.data1) (length t.parts.data2) output
-needed_exact s t e d = rw e (record {
-  some = d.some;
-  data1 = length-take-le (data_length s.word) s.parts.data1 d.data1;
-  data2 = length-take-le (second_length s.word) s.parts.data2 d.data2;
-  room = d.room;
-})
 
 -- a number before the cut
 number_cut : (size p m : ℕ) (l : List ℕ) → p + size ≤ m → number_at size p (take m l) ≡ number_at size p l
@@ -144,3 +134,19 @@ beyond_ignored s = go (lacks_palette s.word s.palette) (eqb (format s.word) 0) r
           cut_short (second_length s.word) s.parts.data2,
           same_bytes s (eqb-false (format s.word) 0 hf),
         )
+
+-- what a decoding answers and leaves where the checks pass
+module _ (s : Sources) (out : List ℕ) (passed : result tt ≡ checked s.word (length s.parts.data1) (length s.parts.data2) s.palette (length out)) where
+  written : Writes (decoded s) out (result (picture_length s.word)) (painted (texel (needed s)) (texel_count s.word) out)
+  written =
+      let r : Ready s.word (length s.parts.data1) (length s.parts.data2) s.palette (length out) = ready_if _ _ _ _ _ passed in
+      writes_needed s (needed s) out refl r.is r.decodable refl
+
+  pub answer_decoded : write_outcome (decoded s) out ≡ result (picture_length s.word)
+  answer_decoded = sym written.outcome
+
+  pub output_decoded : write_output (decoded s) out ≡ painted (texel (needed s)) (texel_count s.word) out
+  output_decoded = sym written.output
+
+-- for the function that decodes
+pub ruleset decodes = (ready_if, length-take-le, answer_decoded, output_decoded)

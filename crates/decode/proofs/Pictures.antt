@@ -16,12 +16,13 @@ use Rattle.nds.specs.Formats.{bits_per_texel, data_length, second_length}
 use Rattle.errors.specs.Refusal.{refusal_outcome}
 use Rattle.output.specs.Output.{Writes, pieces}
 use Rattle.errors.specs.declared.Refusal.{Refusal}
+use Rattle.errors.proofs.Refusals as refusals
 use Rattle.errors.proofs.Refusals.{refusal_not, refusal_any}
 use Rattle.output.proofs.Outputs.{writes_fits, writes_refusal, writes_short}
 use Rattle.scripts.specs.Script.{Answer}
 use Rattle.reading.specs.Tex.{Contents}
 use Rattle.places.specs.Sources.{Sources, sources_of}
-use Rattle.places.proofs.Sources.{passed_on}
+use Rattle.places.proofs.Sources.{passed_on, located_sources, located_refused}
 use Rattle.paint.specs.Paint.{painted, IndexedFits}
 use Rattle.decode.specs.Pictures.{texel_count, picture_length, texel, texel_in, picture_bytes, lacks_palette, lacks_data, ready, decoded, picture_of}
 use Rattle.decode.specs.Checks.{Decodable, Exact, lacks_room, checked}
@@ -265,3 +266,6 @@ module _ (n : ℕ) (choice : Option ℕ) (a : Answer Contents) where
   pub picture_refused : (r : Refusal) → refusal_outcome r ≡ sources_of n choice a → refusal_outcome r ≡ picture_of n choice a
   unfolding picture_of
   picture_refused r e = passed_on r (sources_of n choice a) _ e
+
+-- for the call
+pub ruleset located = (refusals.passed_on, located_refused, located_sources, picture_found, picture_refused)

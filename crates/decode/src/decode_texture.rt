@@ -130,7 +130,7 @@ impl<'a> Texture<'a> {
 }
 
 // Decodes a texture, with a palette where its format needs one, and returns the picture's length in bytes.
-#[tactic(auto, using(crate::proofs::Pictures::ready_if))]
+#[tactic(auto, using(crate::proofs::Beyond::decodes))]
 pub fn decode_texture(texture: Texture, out: &mut [u8]) -> Result<usize, Refusal>
     ensures { Writes (Pictures.decoded (Pictures.sources texture.entry.params.0 texture.entry.data1.now texture.entry.data2.now texture.entry.palette texture.entry.pal_block.now)) out.old (result_outcome result) out.new }
 {
