@@ -211,9 +211,6 @@ module _ (f : ℕ) (s : Sources) (is : format s.word ≡ f) where
   unfolding texel
   texel_by n = rw is
 
-  pub painted_by : {n : ℕ} (out : List ℕ) → n ≡ texel_count s.word → painted (texel_in f s) n out ≡ painted (texel s) (texel_count s.word) out
-  painted_by out e = painted_same _ _ out (λ i. texel_by i) e
-
 -- the lengths of the data, by format
 module _ (w : ℕ) where
   pub length_by : {f : ℕ} → format w ≡ f → data_length w ≡ texel_count w * bits_per_texel f / 8
@@ -224,14 +221,19 @@ module _ (w : ℕ) where
   unfolding second_length
   second_by e = rw (eq-eqb (format w) 5 e)
 
+-- whole bytes
+pub data_bits : (w : ℕ) → 8 * data_length w ≡ texel_count w * bits_per_texel (format w)
+unfolding data_length
+data_bits w =
+    let m = (eights w).across * (eights w).down in
+    let bits = bits_per_texel (format w) in
+    let all : texel_count w * bits ≡ 8 * (8 * m * bits) = rw ((eights w).texels, ← mul_assoc 8 (8 * m) bits, ← mul_assoc 8 8 m) refl in
+    omega (arith, all)
+
 -- what the loops of a format ask for, of a texture whose data are as long as its word says
 module _ {w length1 length2 output : ℕ} (d : Exact w length1 length2 output) where
   bits_there : {f : ℕ} → format w ≡ f → texel_count w * bits_per_texel f ≡ 8 * length1
-  bits_there {f} is =
-      let m = (eights w).across * (eights w).down in
-      let bits = bits_per_texel f in
-      let all : texel_count w * bits ≡ 8 * (8 * m * bits) = rw ((eights w).texels, ← mul_assoc 8 (8 * m) bits, ← mul_assoc 8 8 m) refl in
-      omega (arith, d.data1, length_by w is, all)
+  bits_there is = omega (arith, d.data1, rw is at (data_bits w))
 
   pub bytes_fit : {f : ℕ} → format w ≡ f → bits_per_texel f ≡ 8 → (length1 ≡ texel_count w) × (4 * length1 ≤ output)
   bytes_fit is eight = let there = rw eight at (bits_there is) in (omega (arith, there), omega (arith, there, d.room))
@@ -240,9 +242,6 @@ module _ {w length1 length2 output : ℕ} (d : Exact w length1 length2 output) w
       → IndexedFits (bits_per_texel f) n length1 output
   indexed_fits f (count, small) is some byte =
       record { some = some; byte = byte; small = small; there = rw count (omega (arith, bits_there is)); room = omega (arith, count, d.room) }
-
-  pub direct_fits : format w ≡ 7 → (length1 / 2 ≡ texel_count w) × (4 * (length1 / 2) ≤ output)
-  direct_fits is = let there = bits_there is in (omega (arith, there), omega (arith, there, d.room))
 
   pub picture_fits : format w ≡ 5 → PictureFits (width w) (height w) length1 length2 output
   picture_fits is =
@@ -256,6 +255,35 @@ module _ {w length1 length2 output : ℕ} (d : Exact w length1 length2 output) w
         data2 = omega (arith, e.blocks, e.texels, length_by w is, second_by w is, d.data2);
         room = omega (arith, d.room);
       }
+
+-- the texels of a format, written
+module _ (s : Sources) (n : ℕ) (out : List ℕ) where
+  by_format : (f : ℕ) → f ≡ format s.word → painted (texel s) n out ≡ painted (texel_in f s) n out
+  by_format f is = painted_same _ _ out (λ i. sym (texel_by f s (sym is) i)) refl
+
+  pub painted1 : 1 ≡ format s.word → painted (texel s) n out ≡ painted (texel_in 1 s) n out
+  painted1 = by_format 1
+
+  pub painted2 : 2 ≡ format s.word → painted (texel s) n out ≡ painted (texel_in 2 s) n out
+  painted2 = by_format 2
+
+  pub painted3 : 3 ≡ format s.word → painted (texel s) n out ≡ painted (texel_in 3 s) n out
+  painted3 = by_format 3
+
+  pub painted4 : 4 ≡ format s.word → painted (texel s) n out ≡ painted (texel_in 4 s) n out
+  painted4 = by_format 4
+
+  pub painted5 : 5 ≡ format s.word → painted (texel s) n out ≡ painted (texel_in 5 s) n out
+  painted5 = by_format 5
+
+  pub painted6 : 6 ≡ format s.word → painted (texel s) n out ≡ painted (texel_in 6 s) n out
+  painted6 = by_format 6
+
+  pub painted7 : 7 ≡ format s.word → painted (texel s) n out ≡ painted (texel_in 7 s) n out
+  painted7 = by_format 7
+
+-- for the function that chooses between them
+pub ruleset formats = (data_bits, painted1, painted2, painted3, painted4, painted5, painted6, painted7)
 
 -- a picture from a block, by what was located
 module _ (n : ℕ) (choice : Option ℕ) (a : Answer Contents) where

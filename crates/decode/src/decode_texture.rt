@@ -98,6 +98,7 @@ impl<'a> Texture<'a> {
     // Writes all texels, by the texture's format. It is not inlined behind the checks: the compiler would take the loops over the texels for
     // seldom run there, and not align them, which makes some of them a third slower.
     #[inline(never)]
+    #[tactic(auto, using(crate::proofs::Pictures::formats))]
     fn decode_format(self, out: &mut [u8])
         requires { Checks.Exact self.params.0 (length self.data1.now) (length self.data2.now) (length out.old) }
         ensures { out.new ≡ Paint.painted (Pictures.texel (Pictures.sources self.entry.params.0 self.entry.data1.now self.entry.data2.now self.entry.palette self.entry.pal_block.now)) (Pictures.texel_count self.entry.params.0) out.old }
