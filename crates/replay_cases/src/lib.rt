@@ -4,8 +4,7 @@
 
 ghost use Rattle.std.specs.Prelude.{◌≡◌, ◌≤◌, length, IfOk, OnOk};
 
-// The file descriptor of standard input.
-const STDIN_FILENO: i32 = 0;
+use report::STDIN_FILENO;
 
 // The limit of a block, and of each part of a direct decoding.
 pub const MAX_PART: usize = 4096;

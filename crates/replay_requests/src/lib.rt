@@ -3,28 +3,34 @@
 #![tactic(auto)]
 
 use answer_bytes::MAX_ANSWER;
-use cases::field;
 use decode::decode_texture::Texture;
 use direct_answers::direct_agrees;
 use nds::texture_params::TextureParams;
 use replay_cases::{Broken, MAX_PART, next_array, next_bytes, next_part};
 
-// The length of what stands between a direct decoding's first byte and its first data.
-const HEAD: usize = 21;
+// The list's next number.
+fn next_u32() -> Result<u32, Broken> {
+    Ok(u32::from_le_bytes(next_array()?))
+}
 
 // Whether a case that is a direct decoding agrees.
 pub fn run_direct() -> Result<bool, Broken> {
-    let head: [u8; HEAD] = next_array()?;
+    let params = TextureParams(next_u32()?);
+    let [has_palette] = next_array::<1>()?;
+    let palette_off = next_u32()?;
+    let data1_len = next_u32()?;
+    let data2_len = next_u32()?;
+    let pal_len = next_u32()?;
     let mut data1 = [0; MAX_PART];
     let mut data2 = [0; MAX_PART];
     let mut pal_block = [0; MAX_PART];
     let mut stored = [0; MAX_ANSWER];
     let texture = Texture {
-        params: TextureParams(field(&head, 0)),
-        palette: (head[4] != 0).then_some(field(&head, 5)),
-        data1: next_bytes(&mut data1, field(&head, 9) as usize)?,
-        data2: next_bytes(&mut data2, field(&head, 13) as usize)?,
-        pal_block: next_bytes(&mut pal_block, field(&head, 17) as usize)?,
+        params,
+        palette: (has_palette != 0).then_some(palette_off),
+        data1: next_bytes(&mut data1, data1_len as usize)?,
+        data2: next_bytes(&mut data2, data2_len as usize)?,
+        pal_block: next_bytes(&mut pal_block, pal_len as usize)?,
     };
     Ok(direct_agrees(texture, next_part(&mut stored)?))
 }
