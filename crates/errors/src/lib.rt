@@ -2,8 +2,11 @@
 
 #![tactic(auto)]
 
-ghost use Rattle.std.specs.Prelude.{◌≡◌};
+ghost use Rattle.std.specs.Prelude.{◌≡◌, Some};
 ghost use Rattle.errors.specs.Refusal.{refusal_needed, refusal_number, refusal_returned};
+ghost use Rattle.errors.specs.Display.{refusal_text};
+
+use std::fmt;
 
 // Which of a block's two name lists.
 #[derive(Clone, Copy, Debug, PartialEq, Eq)]
@@ -74,5 +77,14 @@ impl Refusal {
         ensures { result ≡ refusal_returned self }
     {
         self.needed().unwrap_or(0)
+    }
+}
+
+// The listing's line of a refusal, without the line's end.
+impl fmt::Display for Refusal {
+    ghost output = { λ refusal. Some (refusal_text refusal) };
+
+    fn fmt<W: fmt::Write>(&self, f: &mut fmt::Formatter<W>) -> fmt::Result {
+        write!(f, "refused {} {}", self.number(), self.returned())
     }
 }
