@@ -1,1 +1,2 @@
+pub mod Display
 pub mod Show

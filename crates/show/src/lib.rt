@@ -2,12 +2,14 @@
 
 #![tactic(auto)]
 
-ghost use Rattle.std.specs.Prelude.{◌≡◌};
+ghost use Rattle.std.specs.Prelude.{◌≡◌, Some};
+ghost use Rattle.show.specs.Display.{unshown_text};
 ghost use Rattle.show.specs.Show.{shown, shown_of, shown_output};
 ghost use Rattle.show.specs.declared.Unshown.TheVariants.{Refused};
 
 use errors::Refusal;
 use pam::pam;
+use std::fmt;
 
 // The longest file that is read, in bytes: 3 MiB.
 pub const MAX_BLOCK: usize = 3145728;
@@ -28,6 +30,18 @@ impl From<Refusal> for Unshown {
 
     fn from(refusal: Refusal) -> Unshown {
         Unshown::Refused(refusal)
+    }
+}
+
+// A refusal is told as it displays itself.
+impl fmt::Display for Unshown {
+    ghost output = { λ unshown. Some (unshown_text unshown) };
+
+    fn fmt<W: fmt::Write>(&self, f: &mut fmt::Formatter<W>) -> fmt::Result {
+        match self {
+            Self::Refused(refusal) => write!(f, "{refusal}"),
+            Self::TooLong => write!(f, "the file has more than {MAX_BLOCK} bytes"),
+        }
     }
 }
 
