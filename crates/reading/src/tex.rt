@@ -4,7 +4,7 @@ ghost use Rattle.reading.specs.Layouts.{LaidOut};
 
 use crate::lay_out;
 use errors::{Kind, Refusal};
-use info_block::name_list::NameList;
+use info_block::name_list::{Entry, NameList};
 use layout::Layout;
 
 // A block, with what its reading found.
@@ -24,7 +24,7 @@ impl<'a> Tex<'a> {
     ghost use Rattle.layout.specs.Positions as Positions;
     ghost use Rattle.reading.specs.Tex.{read_tex};
     ghost use Rattle.reading.specs.Layouts.{layout_answer};
-    ghost use Rattle.reading.specs.Blocks.{layout_in};
+    ghost use Rattle.reading.specs.Blocks.{layout_in, list_of, entry_at};
 
     // Reads a block.
     pub fn read(block: &'a [u8]) -> Result<Tex<'a>, Refusal>
@@ -48,5 +48,19 @@ impl<'a> Tex<'a> {
             layout.header.list_pos(kind),
             layout.count_of(kind),
         )
+    }
+
+    // Entry n of its list of the kind, where it has one.
+    #[tactic(auto, unfolding(crate::specs::Blocks::entry_at))]
+    pub fn entry(self, kind: Kind, n: usize) -> Result<Entry<'a>, Refusal>
+        ensures value { outcome_as list_of result ≡ entry_at kind n self.entry.block.now self.entry.layout }
+        ensures of_number { IfOk result (λ entry. (entry.list.kind ≡ kind) × (entry.n ≡ n)) }
+    {
+        let list = self.list(kind);
+        if n < list.count {
+            Ok(list.entry(n))
+        } else {
+            Err(Refusal::Number(kind))
+        }
     }
 }
