@@ -7,7 +7,7 @@ use native.Mathlib.Nat.{le_of_suc-le-suc, not-suc-le-zero}
 use lib.ListN.{length, get_or, take}
 use lib.Dec.{ltb}
 use borrow.Author.Tests.{ltb-true, ltb-false, lt-ltb, le-ltb}
-use Rattle.util.specs.Outcome.{Outcome, result, refusal}
+use Rattle.util.specs.Outcome.{result, refusal}
 use Rattle.util.specs.Take.{taken_part}
 use Rattle.errors.specs.Refusal.{absent_number, refusal_outcome}
 use Rattle.errors.specs.declared.Kind.{Kind}
@@ -22,13 +22,13 @@ use Rattle.reading.specs.Tex as Tex
 use Rattle.reading.specs.Tex.{Contents, header_of, read_tex}
 use Rattle.nitro.specs.Calls.{texture_record, palette_record, palette_of}
 use Rattle.nitro.specs.Calls.{entry, texture_entry, palette_entry, reading_of, texture_of, part_of, data1_of, data2_of, pal_block_of}
+use Rattle.reading.specs.Blocks.{entry_at}
 use Rattle.reading.specs.Layouts.{layout_of, layout_answer, LaidOut}
 use Rattle.layout.specs.Positions.{count_of, data_at, second_at}
-use Rattle.nitro.specs.ByLayout.{layout_with, word_with}
-use Rattle.nds.specs.declared.texture_params.TextureParams.{TextureParams}
-use Rattle.layout.specs.declared.Header.{Header}
+use Rattle.nitro.specs.ByLayout.{layout_with}
 use Rattle.layout.specs.declared.Layout.{Layout}
 use Rattle.scripts.proofs.Runs.{whole_outcome, ended, follows_self, refused}
+use Rattle.reading.proofs.Blocks.{entry_is, entry_none}
 use Rattle.reading.proofs.Readings.{TextureAt, finished, textures_listed, palettes_listed, pal_block_whole}
 
 -- entry n of a list, and none
@@ -223,12 +223,12 @@ module _ (b : List ℕ) where
       → taken_part l.header.pal_block_off (8 * l.header.pal_block_len_shr_3) b ≡ pal_block_of (run read_tex b)
   pal_block_found e = laid_pal_block b (record { is = e })
 
-module _ (k : Kind) (n : ℕ) (b : List ℕ) {l : Layout} (e : result l ≡ layout_answer b (run read_tex b)) where
-  pub entry_found : n < count_of k l → result l ≡ layout_with k n b (run read_tex b)
-  entry_found h = laid_entry k n b (record { is = e }) h
-
-  pub entry_missed : count_of k l ≤ n → refusal (absent_number k) 0 ≡ layout_with k n b (run read_tex b)
-  entry_missed h = laid_no_entry k n b (record { is = e }) h
+-- an entry that a block that was read does not have
+pub entry_missed : (k : Kind) (n : ℕ) (b : List ℕ) {l : Layout} → LaidOut b l → (r : Refusal) → refusal_outcome r ≡ entry_at k n b l
+    → refusal_outcome r ≡ layout_with k n b (run read_tex b)
+entry_missed k n b {l} laid r e =
+    let (beyond, is) = entry_none k n b l r e in
+    is ∙ laid_no_entry k n b laid beyond
 
 -- the entries of a layout of the block
 module _ (b : List ℕ) {l : Layout} (laid : LaidOut b l) where
@@ -242,6 +242,20 @@ module _ (b : List ℕ) {l : Layout} (laid : LaidOut b l) where
       let t = texture_found n b (laid_entry kinds.Texture n b laid below) in
       ap result (rw (t.at.name, t.at.word)) ∙ t.entry (λ x. texture_record x.name x.word)
 
+  pub laid_data1 : (n : ℕ) → n < l.textures
+      → let word = entry_number kinds.Texture 4 (list_at kinds.Texture l.header.texture_off l.textures b) n in
+      result (taken_part (data_at l.header word) (data_length word) b) ≡ texture_entry (λ t. t.parts.data1) n (run read_tex b)
+  laid_data1 n below =
+      let t = texture_found n b (laid_entry kinds.Texture n b laid below) in
+      ap result (sym t.at.parts.first) ∙ t.entry (λ x. x.parts.data1)
+
+  pub laid_data2 : (n : ℕ) → n < l.textures
+      → let word = entry_number kinds.Texture 4 (list_at kinds.Texture l.header.texture_off l.textures b) n in
+      result (taken_part (second_at l.header word) (second_length word) b) ≡ texture_entry (λ t. t.parts.data2) n (run read_tex b)
+  laid_data2 n below =
+      let t = texture_found n b (laid_entry kinds.Texture n b laid below) in
+      ap result (sym t.at.parts.second) ∙ t.entry (λ x. x.parts.data2)
+
   pub laid_palette : (n : ℕ) → n < l.palettes
       → result
       (palette_record (entry_name kinds.Palette (list_at kinds.Palette l.header.palette_off l.palettes b) n)
@@ -252,130 +266,38 @@ module _ (b : List ℕ) {l : Layout} (laid : LaidOut b l) where
       let t = palette_found n b (laid_entry kinds.Palette n b laid below) in
       ap result (rw t.at) ∙ t.entry (λ x. palette_record x.name x.off)
 
--- a part of a texture that is not there is empty
-entry_blank : {A : Type 0} (f : Tex.Texture → A) (g : Tex.Texture → List ℕ) (n : ℕ) (a : Answer Contents) {number returned : ℕ}
-    → refusal number returned ≡ texture_entry f n a → [] ≡ part_of (texture_entry g n a)
-unfolding texture_entry outcome_of
-entry_blank f g n (short w) e = refl
-entry_blank f g n (fault w) e = refl
-entry_blank f g n (whole c) e = sym (ap part_of (entry_absent kinds.Texture f g c.textures n (sym e)))
-
--- texture n, where a layout with it was found
+-- texture n and palette n, by a layout that has them, or where there is none
 module _ (n : ℕ) (b : List ℕ) where
-  module _ {l : Layout} (e : result l ≡ layout_with kinds.Texture n b (run read_tex b)) where
-    pub texture_below : n < l.textures
-    texture_below = (entry_laid kinds.Texture n b e).1
-
-    pub word_found : {w : ℕ} → w ≡ entry_number kinds.Texture 4 (list_at kinds.Texture l.header.texture_off l.textures b) n
-        → result (l.header, record { 0 = w }) ≡ word_with n b (run read_tex b)
-    unfolding word_with
-    word_found {w} q =
-        let o = found kinds.Texture n b (run read_tex b) e in
-        let t = texture_found n b e in
-        let head : l.header ≡ header_of (take 60 b) = ap (λ (x : Layout). x.header) o.laid in
-        let word : w ≡ t.texture.word = q ∙ sym t.at.word in
-        ap (λ (x : Header). result (x, record { 0 = w })) head
-        ∙ (ap (λ (x : ℕ). result (header_of (take 60 b), record { 0 = x })) word
-        ∙ t.entry (λ x. (header_of (take 60 b), record { 0 = x.word })))
-
-    data1_found : {w : ℕ} → w ≡ entry_number kinds.Texture 4 (list_at kinds.Texture l.header.texture_off l.textures b) n
-        → taken_part (data_at l.header w) (data_length w) b ≡ data1_of n (run read_tex b)
-    unfolding data1_of
-    data1_found q = let t = texture_found n b e in rw q (sym t.at.parts.first ∙ ap part_of (t.entry (λ x. x.parts.data1)))
-
-    data2_found : {w : ℕ} → w ≡ entry_number kinds.Texture 4 (list_at kinds.Texture l.header.texture_off l.textures b) n
-        → taken_part (second_at l.header w) (second_length w) b ≡ data2_of n (run read_tex b)
-    unfolding data2_of
-    data2_found q = let t = texture_found n b e in rw q (sym t.at.parts.second ∙ ap part_of (t.entry (λ x. x.parts.data2)))
-
-  module _ (r : Refusal) (e : refusal_outcome r ≡ layout_with kinds.Texture n b (run read_tex b)) where
-    pub texture_refused : refusal_outcome r ≡ texture_of n (run read_tex b)
-    unfolding texture_of
-    texture_refused = no_texture_lem n b _ r e
-
-    pub no_word : refusal_outcome r ≡ word_with n b (run read_tex b)
-    unfolding word_with
-    no_word = no_texture_lem n b _ r e
-
-  module _ (r : Refusal) (e : refusal_outcome r ≡ word_with n b (run read_tex b)) where
-    pub no_data1 : [] ≡ data1_of n (run read_tex b)
-    unfolding word_with data1_of
-    no_data1 = entry_blank _ (λ t. t.parts.data1) n (run read_tex b) e
-
-    pub no_data2 : [] ≡ data2_of n (run read_tex b)
-    unfolding word_with data2_of
-    no_data2 = entry_blank _ (λ t. t.parts.data2) n (run read_tex b) e
+  pub texture_below : {l : Layout} → result l ≡ layout_with kinds.Texture n b (run read_tex b) → n < l.textures
+  texture_below e = (entry_laid kinds.Texture n b e).1
 
   pub palette_below : {l : Layout} → result l ≡ layout_with kinds.Palette n b (run read_tex b) → n < l.palettes
   palette_below e = (entry_laid kinds.Palette n b e).1
+
+  pub texture_refused : (r : Refusal) → refusal_outcome r ≡ layout_with kinds.Texture n b (run read_tex b) → refusal_outcome r ≡ texture_of n (run read_tex b)
+  unfolding texture_of
+  texture_refused r e = no_texture_lem n b _ r e
 
   pub palette_refused : (r : Refusal) → refusal_outcome r ≡ layout_with kinds.Palette n b (run read_tex b) → refusal_outcome r ≡ palette_of n (run read_tex b)
   unfolding palette_of
   palette_refused r e = no_palette_lem n b _ r e
 
--- the header and a texture's word
-abbrev data_word : (b : List ℕ) → Tex.Texture → Header × TextureParams
-data_word b t = (header_of (take 60 b), record { 0 = t.word })
-
--- the data of texture n, by these
-record DataThere (n : ℕ) (b : List ℕ) (h : Header) (w : ℕ) : Type 0 where
-  pub first : taken_part (data_at h w) (data_length w) b ≡ data1_of n (run read_tex b)
-  pub second : taken_part (second_at h w) (second_length w) b ≡ data2_of n (run read_tex b)
-
-data_there : (n : ℕ) (b : List ℕ) {h : Header} {p : TextureParams} → result (h, p) ≡ word_with n b (run read_tex b) → DataThere n b h p.0
-unfolding word_with texture_entry outcome_of
-data_there n b {h} {p} e = go (run read_tex b) refl
-  where
-    no : {A : Type 0} {k v : ℕ} → ◌≡◌ {A = Outcome (Header × TextureParams)} (result (h, p)) (refusal k v) → A
-    no q = absurd (cc)
-
-    go : (a : Answer Contents) → run read_tex b ≡ a → DataThere n b h p.0
-    go (short w) q = no (rw q at e)
-    go (fault f) q = no (rw q at e)
-    go (whole c) q = pick (ltb n (length c.textures)) refl
-      where
-        pick : (t : Bool) → ltb n (length c.textures) ≡ t → DataThere n b h p.0
-        pick true m =
-            let below = ltb-true n (length c.textures) m in
-            let t = (textures_listed (header_of (take 60 b)) b (finished b q).textures).at n blank_texture below in
-            let there : (h, p) ≡ (header_of (take 60 b), record { 0 = (get_or c.textures n blank_texture).word }) =
-            cc (rw (q, entry_in kinds.Texture (data_word b) c.textures n blank_texture below) at e) in
-            let head : h ≡ header_of (take 60 b) = ap (λ (x : Header × TextureParams). x.0) there in
-            let same : p.0 ≡ (get_or c.textures n blank_texture).word = ap (λ (x : Header × TextureParams). x.1.0) there in
-            let laid : result (layout_of b c) ≡ layout_with kinds.Texture n b (run read_tex b) = with_entry b q refl kinds.Texture n below in
-            record {
-              first = rw head (data1_found n b laid (same ∙ t.word));
-              second = rw head (data2_found n b laid (same ∙ t.word));
-            }
-        pick false m = no (rw (q, entry_out kinds.Texture (data_word b) c.textures n (ltb-false n (length c.textures) m)) at e)
-
-module _ (n : ℕ) (b : List ℕ) {h : Header} {p : TextureParams} (e : result (h, p) ≡ word_with n b (run read_tex b)) where
-  pub data1_there : taken_part (data_at h p.0) (data_length p.0) b ≡ data1_of n (run read_tex b)
-  data1_there = (data_there n b e).first
-
-  pub data2_there : taken_part (second_at h p.0) (second_length p.0) b ≡ data2_of n (run read_tex b)
-  data2_there = (data_there n b e).second
-
 -- for the calls
 pub ruleset answers = (
   refusals.passed_on,
+  refusals.passed_as,
   not_laid,
   reading_refused,
   reading_found,
   pal_block_found,
   no_pal_block,
-  entry_found,
   entry_missed,
+  entry_is,
   laid_texture,
+  laid_data1,
+  laid_data2,
   laid_palette,
-  texture_below,
-  palette_below,
-  word_found,
-  no_word,
-  data1_there,
-  data2_there,
+  no_texture_lem,
   texture_refused,
-  no_data1,
-  no_data2,
   palette_refused,
 )

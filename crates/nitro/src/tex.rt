@@ -2,17 +2,18 @@
 //
 // Each call reads the block, and then picks what it was asked for. `texture_by` and `palette_by` are handed a block that was read, so that one
 // reading serves for many records.
-ghost use Rattle.std.specs.Prelude.{◌≡◌, ◌<◌, IfOk};
+ghost use Rattle.std.specs.Prelude.{◌≡◌, ◌*◌, ◌<◌};
 ghost use Rattle.util.specs.Outcome.{result as answered};
 ghost use Rattle.scripts.specs.Script.{run};
 ghost use Rattle.reading.specs.Tex.{read_tex as reading};
-ghost use Rattle.reading.specs.Blocks.{layout_in};
+ghost use Rattle.info_block.specs.InfoBlock.{entry_name, entry_number};
+ghost use Rattle.info_block.specs.Lists.{listed};
 ghost use Rattle.errors.specs.Refusal.{result_outcome, outcome_as};
 ghost use Rattle.nitro.specs.Calls as Calls;
-ghost use Rattle.nitro.specs.ByLayout as ByLayout;
 
 use errors::{Kind, Refusal};
-use layout::{Header, off_at, params_at};
+use info_block::name_list::Entry;
+use layout::{off_at, params_at};
 use name::Name;
 use nds::texture_formats::Alpha;
 use nds::texture_params::TextureParams;
@@ -40,20 +41,6 @@ pub struct PaletteRecord {
     pub name: Name,
     // In bytes, from the palette block's start.
     pub off: u32,
-}
-
-// The block, where its list of the kind has an entry n.
-#[tactic(auto, using(crate::proofs::Answers::answers))]
-fn find(block: &[u8], kind: Kind, n: usize) -> Result<Tex<'_>, Refusal>
-    ensures value { outcome_as layout_in result ≡ ByLayout.layout_with kind n block.now (run reading block.now) }
-    ensures of_block { IfOk result (λ tex. tex.block ≡ block.entry) }
-{
-    let tex = Tex::read(block)?;
-    if n < tex.layout.count_of(kind) {
-        Ok(tex)
-    } else {
-        Err(Refusal::Number(kind))
-    }
 }
 
 // The record of a texture by its name and its word.
@@ -98,14 +85,20 @@ pub fn read_tex(block: &[u8]) -> Result<Counts, Refusal>
     })
 }
 
+// The record of a texture by its entry.
+fn texture_at(texture: Entry) -> TextureRecord
+    ensures { result ≡ Calls.texture_record (entry_name texture.entry.list.kind (listed texture.entry.list) texture.entry.n) (entry_number texture.entry.list.kind 4 (listed texture.entry.list) texture.entry.n) }
+{
+    texture_record(texture.name(), params_at(texture))
+}
+
 // The record of texture n of a block that was read.
 #[tactic(auto, using(crate::proofs::Answers::answers))]
 pub fn texture_by(tex: Tex, n: usize) -> TextureRecord
     requires { n < tex.layout.textures }
     ensures { answered result ≡ Calls.texture_of n (run reading tex.entry.block.now) }
 {
-    let entry = tex.list(Kind::Texture).entry(n);
-    texture_record(entry.name(), params_at(entry))
+    texture_at(tex.list(Kind::Texture).entry(n))
 }
 
 // The record of texture n.
@@ -113,7 +106,17 @@ pub fn texture_by(tex: Tex, n: usize) -> TextureRecord
 pub fn texture(block: &[u8], n: usize) -> Result<TextureRecord, Refusal>
     ensures { result_outcome result ≡ Calls.texture_of n (run reading block.now) }
 {
-    Ok(texture_by(find(block, Kind::Texture, n)?, n))
+    Ok(texture_at(Tex::read(block)?.entry(Kind::Texture, n)?))
+}
+
+// The record of a palette by its entry.
+fn palette_at(palette: Entry) -> PaletteRecord
+    ensures { result ≡ Calls.palette_record (entry_name palette.entry.list.kind (listed palette.entry.list) palette.entry.n) (8 * entry_number palette.entry.list.kind 2 (listed palette.entry.list) palette.entry.n) }
+{
+    PaletteRecord {
+        name: palette.name(),
+        off: off_at(palette),
+    }
 }
 
 // The record of palette n of a block that was read.
@@ -122,11 +125,7 @@ pub fn palette_by(tex: Tex, n: usize) -> PaletteRecord
     requires { n < tex.layout.palettes }
     ensures { answered result ≡ Calls.palette_of n (run reading tex.entry.block.now) }
 {
-    let entry = tex.list(Kind::Palette).entry(n);
-    PaletteRecord {
-        name: entry.name(),
-        off: off_at(entry),
-    }
+    palette_at(tex.list(Kind::Palette).entry(n))
 }
 
 // The record of palette n.
@@ -134,39 +133,43 @@ pub fn palette_by(tex: Tex, n: usize) -> PaletteRecord
 pub fn palette(block: &[u8], n: usize) -> Result<PaletteRecord, Refusal>
     ensures { result_outcome result ≡ Calls.palette_of n (run reading block.now) }
 {
-    Ok(palette_by(find(block, Kind::Palette, n)?, n))
+    Ok(palette_at(Tex::read(block)?.entry(Kind::Palette, n)?))
 }
 
-// The header of a block that has texture n, and the texture's word: by these its data stand.
+// The data of texture n, or the first data of a block-compressed texture, where the block has such a texture.
 #[tactic(auto, using(crate::proofs::Answers::answers))]
-fn find_word(block: &[u8], n: usize) -> Result<(Header, TextureParams), Refusal>
-    ensures { result_outcome result ≡ ByLayout.word_with n block.now (run reading block.now) }
+fn data1_found(block: &[u8], n: usize) -> Result<&[u8], Refusal>
+    ensures { outcome_as (λ part. part.now) result ≡ Calls.texture_entry (λ texture. texture.parts.data1) n (run reading block.now) }
 {
-    let tex = find(block, Kind::Texture, n)?;
-    let entry = tex.list(Kind::Texture).entry(n);
-    Ok((tex.layout.header, params_at(entry)))
+    let tex = Tex::read(block)?;
+    let params = params_at(tex.entry(Kind::Texture, n)?);
+    Ok(tex.layout.header.data1(params).part(block))
 }
 
 // The data of texture n, or the first data of a block-compressed texture.
-#[tactic(auto, using(crate::proofs::Answers::answers))]
+#[tactic(auto, unfolding(crate::specs::Calls::data1_of))]
 pub fn texture_data1(block: &[u8], n: usize) -> &[u8]
     ensures { result.now ≡ Calls.data1_of n (run reading block.now) }
 {
-    let Ok((header, params)) = find_word(block, n) else {
-        return &[];
-    };
-    header.data1(params).part(block)
+    data1_found(block, n).unwrap_or(&[])
+}
+
+// The second data of texture n, where the block has such a texture.
+#[tactic(auto, using(crate::proofs::Answers::answers))]
+fn data2_found(block: &[u8], n: usize) -> Result<&[u8], Refusal>
+    ensures { outcome_as (λ part. part.now) result ≡ Calls.texture_entry (λ texture. texture.parts.data2) n (run reading block.now) }
+{
+    let tex = Tex::read(block)?;
+    let params = params_at(tex.entry(Kind::Texture, n)?);
+    Ok(tex.layout.header.data2(params).part(block))
 }
 
 // The second data of texture n. Only a block-compressed texture has any.
-#[tactic(auto, using(crate::proofs::Answers::answers))]
+#[tactic(auto, unfolding(crate::specs::Calls::data2_of))]
 pub fn texture_data2(block: &[u8], n: usize) -> &[u8]
     ensures { result.now ≡ Calls.data2_of n (run reading block.now) }
 {
-    let Ok((header, params)) = find_word(block, n) else {
-        return &[];
-    };
-    header.data2(params).part(block)
+    data2_found(block, n).unwrap_or(&[])
 }
 
 // The palette block, which all palettes share.

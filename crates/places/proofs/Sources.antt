@@ -9,6 +9,7 @@ use lib.ListN.{length, get_or, take, drop, length-drop}
 use lib.Seq.{length-take-le}
 use lib.Dec.{ltb}
 use borrow.Author.Tests.{ltb-true, ltb-false}
+use Rattle.std.proofs.lemmas.Bool.Decides.{nat_tests}
 use Rattle.util.specs.Outcome.{Outcome, result, refusal, ◌>>=◌}
 use Rattle.util.proofs.Takes.{part_there}
 use Rattle.errors.specs.Refusal.{absent_number, refusal_outcome}
@@ -23,6 +24,7 @@ use Rattle.reading.specs.Tex as Tex
 use Rattle.reading.specs.Tex.{Contents, header_of, read_pal_block, read_tex}
 use Rattle.nitro.specs.Calls.{entry, texture_entry, part_of, data1_of, data2_of, pal_block_of}
 use Rattle.places.specs.Sources.{Sources, chosen_of, sources_of, sources_at, places_at, places_of, part_at, pal_place_at, pal_place_of}
+use Rattle.reading.specs.Blocks.{entry_at}
 use Rattle.reading.specs.Layouts.{layout_of, layout_answer, LaidOut}
 use Rattle.nitro.specs.ByLayout.{layout_with}
 use Rattle.places.specs.ByLayout.{chosen_by, places_by}
@@ -32,7 +34,7 @@ use Rattle.layout.specs.declared.Place.{Place}
 use Rattle.places.specs.declared.Places.{Places}
 use Rattle.scripts.proofs.Runs.{bytes_whole, whole_outcome, ended, follows_self, refused}
 use Rattle.reading.proofs.Readings.{finished, textures_listed, palettes_listed, pal_block_whole}
-use Rattle.reading.proofs.Blocks.{list_within}
+use Rattle.reading.proofs.Blocks.{list_within, entry_is}
 use Rattle.nitro.proofs.Answers.{entry_laid, entry_in, entry_out, blank_texture, blank_palette}
 
 -- the palette block by its place
@@ -75,6 +77,12 @@ chosen_there b {c} is (Some k) = go (ltb k (length c.palettes)) refl
         ∙ ap (λ (p : Tex.Palette). result (Some p.off))
         ((palettes_listed (header_of (take 60 b)) b (finished b is).palettes).at k blank_palette below))
     go false e = rw e (entry_out kinds.Palette _ c.palettes k (ltb-false k (length c.palettes) e))
+
+-- and where there is no such palette
+pub chosen_absent : (b : List ℕ) (l : Layout) (k : ℕ) (r : Refusal) → refusal_outcome r ≡ entry_at kinds.Palette k b l
+    → refusal_outcome r ≡ chosen_by b l (Some k)
+unfolding chosen_by entry_at
+chosen_absent b l k r e = grind (arith, nat_tests)
 
 -- a refusal is passed on, whatever comes next
 pub passed_on : {A B : Type 0} (r : Refusal) (o : Outcome A) (f : A → Outcome B) → refusal_outcome r ≡ o → refusal_outcome r ≡ (o >>= f)
@@ -188,6 +196,8 @@ no_sources n choice b r a e = grind (arith, entry_out)
 -- for the functions that find places
 pub ruleset finds = (
   refusals.passed_on,
+  entry_is,
+  chosen_absent,
   pal_place_found,
   pal_place_refused,
   places_refused,

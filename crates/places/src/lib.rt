@@ -36,17 +36,14 @@ pub fn pal_place(block: &[u8]) -> Result<Place, Refusal>
 }
 
 // The offset of the palette that is chosen, if one is.
-#[tactic(auto, unfolding(crate::specs::ByLayout::chosen_by))]
+#[tactic(auto, using(crate::proofs::Sources::finds), unfolding(crate::specs::ByLayout::chosen_by))]
 fn chosen_off(tex: Tex, choice: Option<usize>) -> Result<Option<u32>, Refusal>
     ensures { result_outcome result ≡ ByLayout.chosen_by tex.entry.block.now tex.entry.layout choice }
 {
     let Some(k) = choice else {
         return Ok(None);
     };
-    if k >= tex.layout.palettes {
-        return Err(Refusal::Number(Kind::Palette));
-    }
-    Ok(Some(off_at(tex.list(Kind::Palette).entry(k))))
+    Ok(Some(off_at(tex.entry(Kind::Palette, k)?)))
 }
 
 // The places of a texture by its word, beside a palette's offset.
@@ -67,11 +64,8 @@ pub fn places_of(header: Header, params: TextureParams, palette: Option<u32>) ->
 pub fn locate_by(tex: Tex, n: usize, choice: Option<usize>) -> Result<Places, Refusal>
     ensures { result_outcome result ≡ Sources.places_of n choice tex.entry.block.now (run read_tex tex.entry.block.now) }
 {
-    if n >= tex.layout.textures {
-        return Err(Refusal::Number(Kind::Texture));
-    }
+    let params = params_at(tex.entry(Kind::Texture, n)?);
     let palette = chosen_off(tex, choice)?;
-    let params = params_at(tex.list(Kind::Texture).entry(n));
     Ok(places_of(tex.layout.header, params, palette))
 }
 
