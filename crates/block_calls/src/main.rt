@@ -8,7 +8,7 @@ ghost use Rattle.std.specs.Prelude.{◌<◌, length, IfSome};
 use block_report::{palettes, part, refused, textures};
 use name_report::texts;
 use nitro::tex;
-use report::{STDIN_FILENO, number, numbers, text};
+use report::{input, number, numbers, text};
 use rows_report::all_rows;
 
 // Prints every answer for a block.
@@ -52,6 +52,5 @@ fn show_all(input: &[u8]) {
 // Reads the input, and shows its blocks.
 fn main() {
     let mut buffer = io::large_buffer();
-    let n = io::read_full(STDIN_FILENO, &mut buffer);
-    show_all(&buffer[..n]);
+    show_all(input(&mut buffer));
 }

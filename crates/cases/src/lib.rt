@@ -1,11 +1,10 @@
-// What the test programs ask of their input and their output: the numbers and the named bytes of a case, the pattern that an output is filled
-// with, and a sum of bytes.
+// What the test programs ask of their input and their output: its cases with their numbers and the bytes that they name, the pattern that an
+// output is filled with, and a sum of bytes.
 
 #![tactic(auto)]
 
-ghost use Rattle.std.specs.Prelude.{◌≡◌, ℕ, ◌+◌, ◌*◌, ◌<◌, length, get_or};
-ghost use Rattle.util.specs.Take.{taken_part};
-ghost use Rattle.cases.specs.Cases.{field_of, named_by, pattern_at, added, added_all};
+ghost use Rattle.std.specs.Prelude.{◌≡◌, ℕ, ◌<◌, length, get_or};
+ghost use Rattle.cases.specs.Cases.{field_of, named_by, IsCase, CalledAtCases, pattern_at, added, added_all};
 
 use cursor::part_at;
 use util::cur::peek;
@@ -28,8 +27,7 @@ pub struct Case<'a> {
 impl<'a> Case<'a> {
     // The input's case n, counted from 0. The cases have len bytes each, and stand behind a number of 4 bytes, which counts them.
     pub fn nth(input: &'a [u8], len: u32, n: u32) -> Case<'a>
-        ensures same_input { result.input.now ≡ input.now }
-        ensures numbers { result.numbers.now ≡ taken_part (4 + len * n) len input.now }
+        ensures { IsCase len n input.now result }
     {
         let numbers = part_at(input, 4 + len as usize * n as usize, len as usize);
         Case { input, numbers }
@@ -52,12 +50,22 @@ impl<'a> Case<'a> {
     }
 }
 
+// Calls `show` at each case of the input, in order. The input begins with the number of cases, and a case has len bytes.
+pub fn each_case<F: FnMut(Case)>(input: &[u8], len: u32, mut show: F)
+    requires { F.IsAlwaysCallable show }
+    ensures { (last : F) × CalledAtCases (λ from case to. F.step from case tt to) len input.now (field_of 0 input.now) show last }
+{
+    for n in 0..field(input, 0) {
+        show(Case::nth(input, len, n));
+    }
+}
+
 // Fills the output with bytes that tell their places, none of them 0.
 pub fn fill(out: &mut [u8])
     ensures { (k : ℕ) → k < length out.old → get_or out.new k 0 ≡ pattern_at k }
 {
-    for i in 0..out.len() {
-        out[i] = (1 + i % 251) as u8;
+    for (i, b) in out.iter_mut().enumerate() {
+        *b = (1 + i % 251) as u8;
     }
 }
 
@@ -70,16 +78,31 @@ pub fn filled<const N: usize>() -> [u8; N]
     out
 }
 
-// The sum with one number more. It depends on each number and on its place.
-pub fn add(sum: u64, x: u64) -> u64
-    ensures { result ≡ added sum x }
-{
-    (31 * (sum % 65521) + x % 65521) % 65521
-}
+// A sum of numbers. It depends on each number and on its place.
+#[derive(Clone, Copy)]
+pub struct Sum(pub u64);
 
-// The sum with all bytes.
-pub fn add_all(sum: u64, bytes: &[u8]) -> u64
-    ensures { result ≡ added_all sum bytes.now }
-{
-    bytes.iter().fold(sum, |s, b| add(s, u64::from(*b)))
+impl Sum {
+    // The sum of no numbers.
+    pub fn new() -> Sum
+        ensures { result.0 ≡ 1 }
+    {
+        Sum(1)
+    }
+
+    // Adds a number.
+    pub fn add(&mut self, x: u64)
+        ensures { self.new.0 ≡ added self.old.0 x }
+    {
+        self.0 = (31 * (self.0 % 65521) + x % 65521) % 65521;
+    }
+
+    // Adds each byte.
+    pub fn add_all(&mut self, bytes: &[u8])
+        ensures { self.new.0 ≡ added_all self.old.0 bytes.now }
+    {
+        for b in bytes {
+            self.add(u64::from(*b));
+        }
+    }
 }

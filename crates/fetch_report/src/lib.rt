@@ -2,8 +2,8 @@
 
 #![tactic(auto)]
 
-use cases::{add_all, filled};
-use report::{counted, number, text};
+use cases::{Sum, filled};
+use report::{counted, number, summed, text};
 use stream::fetch_picture::fetch_picture;
 use stream::fetch_tex::fetch_tex;
 use stream_report::{ROOM, Request};
@@ -27,9 +27,9 @@ fn fetched_picture(block: &[u8], request: Request, out: &mut [u8]) {
     let fetched = fetch_picture(block, request.texture, request.choice, out);
     counted(fetched.answer);
     short_answers(fetched.short_answers);
-    text(b" |");
-    number(add_all(1, out));
-    text(b"\n");
+    let mut sum = Sum::new();
+    sum.add_all(out);
+    summed(sum.0);
 }
 
 // A line of fetching. The output is filled.

@@ -16,9 +16,9 @@
 
 #![tactic(auto)]
 
-use cases::{Case, field};
+use cases::{Case, each_case};
 use listing_report::listed_to;
-use report::{STDIN_FILENO, text};
+use report::{input, text};
 
 // Shows a case.
 fn show(case: Case) {
@@ -26,16 +26,8 @@ fn show(case: Case) {
     listed_to(case.named(8), case.field(16) as usize);
 }
 
-// Shows each case of the input.
-fn show_all(input: &[u8]) {
-    for n in 0..field(input, 0) {
-        show(Case::nth(input, 20, n));
-    }
-}
-
-// Some cases have more than the 65,536 bytes that `io::large_buffer` has.
+// Reads the input, and shows its cases. Some of them have more than the 65,536 bytes that `io::large_buffer` has.
 fn main() {
-    let mut input = [0; 196608];
-    let n = io::read_full(STDIN_FILENO, &mut input);
-    show_all(&input[..n]);
+    let mut buffer = [0; 196608];
+    each_case(input(&mut buffer), 20, show);
 }

@@ -2,10 +2,10 @@
 
 #![tactic(auto)]
 
-use cases::{add_all, filled};
+use cases::{Sum, filled};
 use cursor::part_at;
 use listing::list;
-use report::{counted, number, text};
+use report::{counted, summed, text};
 
 // The most bytes that an output has.
 const ROOM: usize = 22400;
@@ -13,10 +13,10 @@ const ROOM: usize = 22400;
 // Shows the call's answer, the sum of the output as the call left it, and the text, which is nothing where the call was declined.
 fn listed(input: &[u8], out: &mut [u8]) {
     let answer = list(input, out);
+    let mut sum = Sum::new();
+    sum.add_all(out);
     counted(answer);
-    text(b" |");
-    number(add_all(1, out));
-    text(b"\n");
+    summed(sum.0);
     text(part_at(out, 0, answer.unwrap_or(0)));
 }
 

@@ -12,21 +12,24 @@
 // | 12 | the texture word, or the texture's number |
 // | 16 | 0: no palette. Else: one |
 // | 20 | its offset, or its number |
-// | 24 | the output's length |
+// | 24 | the output's length, at most 65,536 |
 // | 28, 32 | first data, or the block |
 // | 36, 40 | second data |
 // | 44, 48 | the palette block |
 
 #![tactic(auto)]
 
-use cases::{Case, field, fill};
+use cases::{Case, each_case, filled};
 use decode::decode_texture::{Texture, decode_texture};
 use decode::picture::picture;
 use errors::Refusal;
 use nds::texture_params::TextureParams;
 use picture_report::written;
-use report::{STDIN_FILENO, text};
+use report::{input, text};
 use told::choice_of;
+
+// The most bytes that an output has.
+const ROOM: usize = 65536;
 
 // What a case asks for.
 enum Asked<'a> {
@@ -72,29 +75,19 @@ impl<'a> Asked<'a> {
 fn run(case: Case, out: &mut [u8]) {
     text(case.named(4));
     text(b":");
-    fill(out);
     written(Asked::of(case).answer(out), out);
     text(b"\n");
 }
 
-// Runs the case with the part of the buffer that it asks for.
-fn show(case: Case, buffer: &mut [u8]) {
-    if let Some(out) = buffer.get_mut(..case.field(24) as usize) {
+// Runs the case with an output of the length that it asks for, which is filled. One that asks for more than the most is left out.
+fn show(case: Case) {
+    if let Some(out) = filled::<ROOM>().get_mut(..case.field(24) as usize) {
         run(case, out);
-    }
-}
-
-// Runs each case of the input.
-fn show_all(input: &[u8], buffer: &mut [u8]) {
-    for n in 0..field(input, 0) {
-        show(Case::nth(input, 52, n), buffer);
     }
 }
 
 // Reads the input, and runs its cases.
 fn main() {
-    let mut input = io::large_buffer();
     let mut buffer = io::large_buffer();
-    let n = io::read_full(STDIN_FILENO, &mut input);
-    show_all(&input[..n], &mut buffer);
+    each_case(input(&mut buffer), 52, show);
 }

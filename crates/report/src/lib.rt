@@ -1,4 +1,4 @@
-// How the test programs print texts, numbers and answers.
+// How the test programs read their input, and print texts, numbers and answers.
 
 #![tactic(auto)]
 
@@ -13,6 +13,12 @@ pub const STDIN_FILENO: i32 = 0;
 
 // The file descriptor of standard output.
 pub const STDOUT_FILENO: i32 = 1;
+
+// Standard input, up to its end or as much as the buffer holds.
+pub fn input(buffer: &mut [u8]) -> &[u8] {
+    let n = io::read_full(STDIN_FILENO, buffer);
+    &buffer[..n]
+}
 
 // Prints bytes as they are.
 pub fn text(bytes: &[u8]) {
@@ -57,6 +63,13 @@ pub fn answered<T, F: FnOnce(T)>(answer: Result<T, Refusal>, value: F)
 // Prints an answer that is a number or a refusal.
 pub fn counted(answer: Result<usize, Refusal>) {
     answered(answer, |n| number(n as u64));
+}
+
+// Prints the sum of what a line does not show, and ends the line.
+pub fn summed(sum: u64) {
+    text(b" |");
+    number(sum);
+    text(b"\n");
 }
 
 // Prints a space, and the word for a wrap mode.

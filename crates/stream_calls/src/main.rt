@@ -28,9 +28,9 @@
 
 #![tactic(auto)]
 
-use cases::{Case, field};
+use cases::{Case, each_case};
 use fetch_report::fetching;
-use report::{STDIN_FILENO, text};
+use report::{input, text};
 use stream_report::{Request, prefixes};
 use told::choice_of;
 
@@ -56,16 +56,8 @@ fn show(case: Case) {
     }
 }
 
-// Shows each case of the input.
-fn show_all(input: &[u8]) {
-    for n in 0..field(input, 0) {
-        show(Case::nth(input, 40, n));
-    }
-}
-
 // Reads the input, and shows its cases.
 fn main() {
-    let mut input = io::large_buffer();
-    let n = io::read_full(STDIN_FILENO, &mut input);
-    show_all(&input[..n]);
+    let mut buffer = io::large_buffer();
+    each_case(input(&mut buffer), 40, show);
 }

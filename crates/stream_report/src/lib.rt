@@ -2,10 +2,10 @@
 
 #![tactic(auto)]
 
-use cases::{add_all, filled};
+use cases::{Sum, filled};
 use decode::picture::picture;
 use nitro::tex;
-use report::{counted, decimal, number, text};
+use report::{counted, decimal, summed, text};
 use stream_sums::{add_parts, palette, reading, texture};
 
 // The most bytes that an output has.
@@ -25,28 +25,24 @@ pub struct Request {
 
 // Shows the picture call's answer for an output of len bytes, which are filled, and adds the whole output as the call left it. A greater len
 // than the most shows nothing.
-fn paint(sum: u64, block: &[u8], request: Request, len: usize) -> u64 {
-    let mut room = filled::<ROOM>();
-    let Some(out) = room.get_mut(..len) else {
-        return sum;
-    };
-    counted(picture(block, request.texture, request.choice, out));
-    add_all(sum, out)
+fn paint(sum: &mut Sum, block: &[u8], request: Request, len: usize) {
+    if let Some(out) = filled::<ROOM>().get_mut(..len) {
+        counted(picture(block, request.texture, request.choice, out));
+        sum.add_all(out);
+    }
 }
 
 // A line of prefixes: the reading, both records, the parts and two pictures, on a block's first bytes alone.
 fn prefix(bytes: &[u8], request: Request) {
-    let n = request.texture;
+    let mut sum = Sum::new();
     decimal(bytes.len() as u64);
     reading(tex::read_tex(bytes));
-    let with_texture = texture(1, bytes, n);
-    let with_palette = palette(with_texture, bytes, request.palette);
-    let with_parts = add_parts(with_palette, bytes, n);
-    let with_picture = paint(with_parts, bytes, request, request.room);
-    let sum = paint(with_picture, bytes, request, 12);
-    text(b" |");
-    number(sum);
-    text(b"\n");
+    texture(&mut sum, bytes, request.texture);
+    palette(&mut sum, bytes, request.palette);
+    add_parts(&mut sum, bytes, request.texture);
+    paint(&mut sum, bytes, request, request.room);
+    paint(&mut sum, bytes, request, 12);
+    summed(sum.0);
 }
 
 // A line for each number of bytes from least to the block's length, and for all of them where least is beyond it.
