@@ -5,7 +5,7 @@
 use errors::Refusal;
 use nitro::tex;
 use nitro::tex::{PaletteRecord, TextureRecord};
-use report::{STDOUT_FILENO, alpha, number, text, wrap};
+use report::{hex, number, text, word};
 
 // Prints a refusal's number, and for a short block what is returned beside it.
 pub fn refused(refusal: Refusal) {
@@ -16,12 +16,17 @@ pub fn refused(refusal: Refusal) {
     }
 }
 
+// Prints an answer that is a number or a refusal.
+pub fn counted(answer: Result<usize, Refusal>) {
+    answer.map_or_else(refused, |n| number(n as u64));
+}
+
 // Prints a part's length, and its bytes in hex.
 pub fn part(bytes: &[u8]) {
     number(bytes.len() as u64);
     text(b" ");
     for b in bytes {
-        io::print_hex(STDOUT_FILENO, u64::from(*b), 2);
+        hex(u64::from(*b), 2);
     }
 }
 
@@ -36,9 +41,9 @@ fn record<T: Copy, F: FnOnce(T)>(answer: Result<T, Refusal>, none: T, fields: F)
 // Prints a texture's record.
 fn texture(record: TextureRecord) {
     number(u64::from(record.params.0));
-    wrap(record.wrap_s);
-    wrap(record.wrap_t);
-    alpha(record.alpha);
+    word(record.wrap_s.word());
+    word(record.wrap_t.word());
+    word(record.alpha.word());
     part(&record.name.0);
 }
 

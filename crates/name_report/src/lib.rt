@@ -2,10 +2,10 @@
 
 #![tactic(auto)]
 
-use block_report::refused;
+use block_report::counted;
 use errors::Refusal;
 use name::Name;
-use report::{number, text};
+use report::{text, word};
 
 // Prints what a name call answers to an output, and all of the output.
 fn written<const N: usize, F: FnOnce(&mut [u8]) -> Result<usize, Refusal>>(
@@ -16,9 +16,8 @@ fn written<const N: usize, F: FnOnce(&mut [u8]) -> Result<usize, Refusal>>(
     requires { F.IsAlwaysCallable call }
 {
     text(title);
-    call(&mut out).map_or_else(refused, |n| number(n as u64));
-    text(b" ");
-    text(&out);
+    counted(call(&mut out));
+    word(&out);
     text(b"\n");
 }
 

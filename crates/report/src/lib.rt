@@ -5,14 +5,12 @@
 ghost use Rattle.std.specs.Prelude.{IfOk};
 
 use errors::Refusal;
-use nds::texture_formats::Alpha;
-use nds::wrap::Wrap;
 
 // The file descriptor of standard input.
 pub const STDIN_FILENO: i32 = 0;
 
 // The file descriptor of standard output.
-pub const STDOUT_FILENO: i32 = 1;
+const STDOUT_FILENO: i32 = 1;
 
 // Standard input, up to its end or as much as the buffer holds.
 pub fn input(buffer: &mut [u8]) -> &[u8] {
@@ -30,10 +28,21 @@ pub fn decimal(n: u64) {
     io::print_decimal(STDOUT_FILENO, n);
 }
 
+// Prints a number in hex, in so many digits at least.
+pub fn hex(n: u64, digits: usize) {
+    io::print_hex(STDOUT_FILENO, n, digits);
+}
+
 // Prints a space, and a number in decimal.
 pub fn number(n: u64) {
     text(b" ");
     decimal(n);
+}
+
+// Prints a space, and a word.
+pub fn word(w: &[u8]) {
+    text(b" ");
+    text(w);
 }
 
 // Prints each number behind a space.
@@ -70,16 +79,4 @@ pub fn summed(sum: u64) {
     text(b" |");
     number(sum);
     text(b"\n");
-}
-
-// Prints a space, and the word for a wrap mode.
-pub fn wrap(w: Wrap) {
-    text(b" ");
-    text(w.word());
-}
-
-// Prints a space, and the word for an alpha kind.
-pub fn alpha(a: Alpha) {
-    text(b" ");
-    text(a.word());
 }

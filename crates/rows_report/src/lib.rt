@@ -2,14 +2,14 @@
 
 #![tactic(auto)]
 
-use block_report::refused;
+use block_report::counted;
 use errors::Kind;
-use report::{number, numbers, text};
+use report::{numbers, text};
 
 // Prints what the call for all rows of a kind answers to an output, and all of the output.
 fn rows<const N: usize>(block: &[u8], kind: Kind, mut out: [usize; N]) {
     text(b"rows");
-    rows::rows(block, kind, &mut out).map_or_else(refused, |n| number(n as u64));
+    counted(rows::rows(block, kind, &mut out));
     text(b" of");
     numbers(&out);
     text(b"\n");

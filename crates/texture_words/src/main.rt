@@ -3,7 +3,7 @@
 #![tactic(auto)]
 
 use nds::texture_params::TextureParams;
-use report::{STDOUT_FILENO, alpha, decimal, text, wrap};
+use report::{decimal, hex, text, word};
 
 // Document 01's words, each single bit, each format with and without bit 29, each set of repeat and mirror bits, and some of no
 // particular kind.
@@ -89,35 +89,35 @@ const WORDS: [u32; 78] = [
 ];
 
 // Writes a label and a number.
-fn number(label: &[u8], n: u64) {
+fn number(label: &[u8], n: impl Into<u64>) {
     text(label);
-    decimal(n);
+    decimal(n.into());
 }
 
 // Writes the line of a word.
 fn show(params: TextureParams) {
-    io::print_hex(STDOUT_FILENO, params.0 as u64, 8);
-    number(b" offset ", params.offset() as u64);
-    number(b" repeat ", params.repeat_s() as u64);
-    number(b" ", params.repeat_t() as u64);
-    number(b" mirror ", params.mirror_s() as u64);
-    number(b" ", params.mirror_t() as u64);
+    hex(u64::from(params.0), 8);
+    number(b" offset ", params.offset());
+    number(b" repeat ", params.repeat_s());
+    number(b" ", params.repeat_t());
+    number(b" mirror ", params.mirror_s());
+    number(b" ", params.mirror_t());
     text(b" wrap");
-    wrap(params.wrap_s());
-    wrap(params.wrap_t());
-    number(b" size ", params.width() as u64);
-    number(b" ", params.height() as u64);
+    word(params.wrap_s().word());
+    word(params.wrap_t().word());
+    number(b" size ", params.width());
+    number(b" ", params.height());
     let format = params.format();
-    number(b" format ", format.number() as u64);
-    number(b" color0 ", params.is_color0_transparent() as u64);
-    number(b" transform ", params.texcoord_transform_mode() as u64);
+    number(b" format ", format.number());
+    number(b" color0 ", params.is_color0_transparent());
+    number(b" transform ", params.texcoord_transform_mode());
     let desc = format.desc();
-    number(b" bits ", desc.bpp as u64);
-    number(b" palette ", desc.requires_palette as u64);
+    number(b" bits ", desc.bpp);
+    number(b" palette ", desc.requires_palette);
     number(b" data ", params.byte_len() as u64);
     number(b" ", params.byte_len2() as u64);
     text(b" alpha");
-    alpha(params.alpha_type());
+    word(params.alpha_type().word());
     text(b"\n");
 }
 
