@@ -9,6 +9,7 @@ use answer_bytes::Answer;
 use decode::picture::picture;
 
 // Puts the picture of texture n with the chosen palette.
+#[tactic(auto, using(answer_bytes::proofs::Pictures::drawn_made))]
 fn put_one(answer: &mut Answer, block: &[u8], n: usize, choice: Option<usize>)
     ensures { answer.new ≡ with_one block.now n choice answer.old }
 {

@@ -10,6 +10,7 @@ use answer_bytes::Answer;
 use decode::decode_texture::{Texture, decode_texture};
 
 // Whether the direct decoding's answer is the stored one.
+#[tactic(auto, using(answer_bytes::proofs::Pictures::drawn_made))]
 pub fn direct_agrees(texture: Texture, stored: &[u8]) -> bool
     ensures { IsTrue result ↔ (with_picture [] (decoded (sources texture.entry.params.0 texture.entry.data1.now texture.entry.data2.now texture.entry.palette texture.entry.pal_block.now)) ≡ stored.now) }
 {
