@@ -8,9 +8,11 @@ use native.Mathlib.Nat.{mod-eq_of_lt, div-eq_of_lt, mul-add-mod_self_left, mul-a
 use native.Mathlib.Omega.{arith}
 use lib.ListN.{length, take, drop, get_or, set, length-append, length-drop, take-append-drop, drop_of_length-le}
 use lib.Seq.{take-set-le, take-set-lt, drop-set-lt, drop-set-add, length-take-le, take_all, take-add, drop-drop, sets, length-sets, sets-eq}
+use borrow.Rule.Slice.PartMut.{mid_of, put_mid}
 use lib.Bits.{bit_and, and_mask}
 use lib.Pow.{shr-shr}
 use borrow.Author.Count.{below_more}
+use Rattle.std.proofs.lemmas.List.{get_or-take, get_or-drop}
 use Rattle.util.specs.Number.{number_at}
 use Rattle.util.proofs.Numbers.{number_one, number_add}
 use Rattle.output.proofs.Outputs.{wrote_length, wrote_more, wrote_all, pieces_same, pieces_add}
@@ -18,7 +20,7 @@ use Rattle.texels.specs.Texels.{block_color, format5}
 use Rattle.output.specs.Output.{pieces}
 use Rattle.paint.specs.Paint.{painted, pixel_at, TexelTable}
 use Rattle.compressed.specs.Blocks.{row_bytes, byte_of, row_of, BlockPut, compressed_texel, rows_texel}
-use Rattle.paint.proofs.Quads.{Fours, length_quads, Painting, paint_none}
+use Rattle.paint.proofs.Quads.{Fours, length_quads, Painting}
 use Rattle.texels.proofs.Texels.{below_four, block_four}
 use Rattle.texels.proofs.Index.{row_below}
 
@@ -46,12 +48,12 @@ module _ (width : ℕ) where
 
   -- bytes stored from texel x of row j on, within the row
   module _ (j x : ℕ) (vs l : List ℕ) (h : 4 * x + length vs ≤ 4 * width) where
-    row_here : row_of width j (sets l (4 * (j * width + x)) vs) ≡ sets (row_of width j l) (4 * x) vs
+    pub row_here : row_of width j (sets l (4 * (j * width + x)) vs) ≡ sets (row_of width j l) (4 * x) vs
     row_here =
         let e : 4 * (j * width + x) ≡ 4 * (j * width) + 4 * x = omega arith in
         rw (e, drop_sets_within (4 * (j * width)) l (4 * x) vs) (take_sets_within (4 * width) (drop (4 * (j * width)) l) (4 * x) vs h)
 
-    row_before : (i : ℕ) → i < j → row_of width i (sets l (4 * (j * width + x)) vs) ≡ row_of width i l
+    pub row_before : (i : ℕ) → i < j → row_of width i (sets l (4 * (j * width + x)) vs) ≡ row_of width i l
     row_before i m =
         let q = 4 * (j * width + x) - 4 * (i * width) in
         let e : 4 * (j * width + x) ≡ 4 * (i * width) + q = omega (arith, row_below width i j m) in
@@ -59,10 +61,10 @@ module _ (width : ℕ) where
         ∙ (ap (take (4 * width)) (drop_sets_within (4 * (i * width)) l q vs)
         ∙ take_sets_before (4 * width) (drop (4 * (i * width)) l) q vs (omega (arith, row_below width i j m)))
 
-    row_behind : (i : ℕ) → j < i → row_of width i (sets l (4 * (j * width + x)) vs) ≡ row_of width i l
+    pub row_behind : (i : ℕ) → j < i → row_of width i (sets l (4 * (j * width + x)) vs) ≡ row_of width i l
     row_behind i m = ap (take (4 * width)) (drop_sets_behind (4 * (i * width)) l _ vs (omega (arith, row_below width j i m)))
 
-    rows_rest : j < 4 → drop (4 * (4 * width)) (sets l (4 * (j * width + x)) vs) ≡ drop (4 * (4 * width)) l
+    pub rows_rest : j < 4 → drop (4 * (4 * width)) (sets l (4 * (j * width + x)) vs) ≡ drop (4 * (4 * width)) l
     rows_rest m = drop_sets_behind (4 * (4 * width)) l (4 * (j * width + x)) vs (omega (arith, row_below width j 4 m))
 
 -- a block of which the first i rows are written: the invariant of the loop over its rows
@@ -95,6 +97,9 @@ module _ {width x : ℕ} {rows : ℕ → List ℕ} {i : ℕ} {entry now : List �
   -- all four
   pub block_all : 4 ≤ i → BlockPut width x rows entry now
   block_all h = record { row = λ r l. p.done r (omega arith); rest = p.rest }
+
+-- for the function that writes a block
+pub ruleset block_rows = (row_below, block_none, row_here, row_before, row_behind, rows_rest, block_all)
 
 -- texel c of those that a row's byte chooses from four texels
 abbrev pub chosen : (table : List (List ℕ)) (row c : ℕ) → List ℕ
@@ -148,9 +153,6 @@ pub record BlocksDone (width : ℕ) (f : ℕ → List ℕ) (i : ℕ) (entry now 
   pub row : (r : ℕ) → r < 4 → Painting (λ x. f (r * width + x)) (4 * i) (row_of width r entry) (row_of width r now)
   pub rest : drop (4 * (4 * width)) now ≡ drop (4 * (4 * width)) entry
   pub same : length now ≡ length entry
-
-pub blocks_none : (width : ℕ) (f : ℕ → List ℕ) (entry : List ℕ) → BlocksDone width f 0 entry entry
-blocks_none width f entry = record { within = omega arith; row = λ r l. paint_none _ _; rest = refl; same = refl }
 
 -- rows of texels are the texels in order
 rows_texels : (width : ℕ) (f : ℕ → List ℕ) (l : List ℕ) (n : ℕ)
@@ -232,6 +234,10 @@ module _ (b : List ℕ) (p : ℕ) (small : (i : ℕ) → get_or b i 0 < 256) (h 
       low : (m c : ℕ) → c < 4 → m / 2 ^ (2 * c) % 2 ^ 2 ≡ m % 256 / 2 ^ (2 * c) % 2 ^ 2
       low m = below_four (λ c. m / 2 ^ (2 * c) % 2 ^ 2 ≡ m % 256 / 2 ^ (2 * c) % 2 ^ 2) (omega arith) (omega arith) (omega arith) (omega arith)
 
+-- a byte of a part of the data
+pub bytes_there : (l : List ℕ) (a n r : ℕ) → r < n → byte_of (take n (drop a l)) r ≡ byte_of l (a + r)
+bytes_there l a n r h = get_or-take n (drop a l) r 0 h ∙ get_or-drop a l r 0
+
 -- row r of block i of row `row` of blocks, which is block b
 module _ (width row i r b : ℕ) (data1 data2 pal_block : List ℕ) (p : ℕ) (hr : r < 4) (h : 4 * i + 4 ≤ width) (is : b ≡ width / 4 * row + i) where
   -- its texel c, texel 4r + c of the block
@@ -290,3 +296,27 @@ paint_part f g n m a k {entry} {now} {part} w ea ek h e kept same =
     let end : 4 * n + length (pieces g m) ≡ 4 * (n + m) = omega arith in
     rw (e, put_part g m a k now ek (omega arith) sized, ea, pieces_add f n m, ← pieces_same g (λ j. f (n + j)) m (λ j _. same j), ← end)
     (wrote_more w (pieces g m) (omega arith))
+
+-- no texels
+pub pieces_none : (f : ℕ → List ℕ) (n : ℕ) → n ≡ 0 → pieces f n ≡ []
+unfolding pieces
+pieces_none f n e = rw e
+
+-- all rows
+pub rows_all : (width height i : ℕ) → i ≤ height / 4 → height / 4 ≤ i → 4 * (height / 4) ≡ height → width * (4 * i) ≡ width * height
+rows_all width height i most least fours = let all : 4 * i ≡ height = omega arith in rw all
+
+-- four rows more of a picture
+module _ (width height : ℕ) (data1 data2 pal_block : List ℕ) (p i : ℕ) {entry now part : List ℕ} where
+  pub band_more : Painting (compressed_texel width data1 data2 pal_block p) (width * (4 * i)) entry now
+      → part ≡ painted (rows_texel width data1 data2 pal_block p i) (4 * width) (mid_of (16 * (width * i)) (length now - 16 * (width * i)) now)
+      → length part ≡ length (mid_of (16 * (width * i)) (length now - 16 * (width * i)) now)
+      → 0 < width → i < height / 4 → 4 * (height / 4) ≡ height → 4 * (width * height) ≤ length entry
+      → Painting (compressed_texel width data1 data2 pal_block p) (width * (4 * (i + 1))) entry
+      (put_mid (16 * (width * i)) (length now - 16 * (width * i)) now part)
+  band_more w is kept some below fours room =
+      let at : 16 * (width * i) ≡ 4 * (width * (4 * i)) = omega (arith, mul_left_comm width 4 i) in
+      rw (mul_next width i)
+      (paint_part _ (rows_texel width data1 data2 pal_block p i) _ _ _ _ w at refl
+      (omega (arith, band_below width height i below fours, wrote_length w))
+      is kept (λ j. rows_texel_lem width _ _ _ p i j some))

@@ -21,9 +21,9 @@ pub record BlockPut (width x : ℕ) (rows : ℕ → List ℕ) (entry exit : List
   pub row : (i : ℕ) → i < 4 → row_of width i exit ≡ sets (row_of width i entry) (4 * x) (rows i)
   pub rest : drop (4 * (4 * width)) exit ≡ drop (4 * (4 * width)) entry
 
-pub record BlockFits (width x b length1 output : ℕ) : Type 0 where
+pub record BlockFits (width x rows output : ℕ) : Type 0 where
   pub within : x + 4 ≤ width
-  pub texels : 4 * b + 4 ≤ length1
+  pub four : rows ≡ 4
   pub room : 4 * (4 * width) ≤ output
 
 -- Texel n of a block-compressed picture, and of its rows from row 4i on.

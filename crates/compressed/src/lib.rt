@@ -41,18 +41,19 @@ fn put_row(out: &mut [u8], n: usize, table: &[[u8; 4]; 4], row: u8)
     );
 }
 
-// Writes block b, whose top left texel is texel x of the first row.
-#[tactic(auto, using(texels::proofs::Index::row_below, crate::proofs::Rows::block_none, crate::proofs::Rows::block_all))]
-fn put_block(out: &mut [u8], width: usize, x: usize, data1: &[u8], b: usize, table: &[[u8; 4]; 4])
-    requires { Blocks.BlockFits width x b (length data1.now) (length out.old) }
-    ensures { Blocks.BlockPut width x (λ i. Blocks.row_bytes table.now (Blocks.byte_of data1.now (4 * b + i))) out.old out.new }
+// Writes a block by the bytes of its rows. Its top left texel is texel x of the first row.
+#[tactic(auto, using(crate::proofs::Rows::block_rows))]
+fn put_block(out: &mut [u8], width: usize, x: usize, rows: &[u8], table: &[[u8; 4]; 4])
+    requires { Blocks.BlockFits width x (length rows.now) (length out.old) }
+    ensures { Blocks.BlockPut width x (λ i. Blocks.row_bytes table.now (Blocks.byte_of rows.now i)) out.old out.new }
 {
-    for i in 0..4 {
-        put_row(out, i * width + x, table, data1[4 * b + i]);
+    for (i, row) in rows.iter().enumerate() {
+        put_row(out, i * width + x, table, *row);
     }
 }
 
 // Writes four rows of a block-compressed picture, those of a row of blocks.
+#[tactic(auto, using(crate::proofs::Rows::pieces_none))]
 fn put_blocks(
     out: &mut [u8],
     width: usize,
@@ -68,12 +69,12 @@ fn put_blocks(
     for i in 0..num_blocks_x {
         let b = num_blocks_x * row + i;
         let table = block_colors(palette, u16::view(data2, 2 * b));
-        put_block(out, width, 4 * i, data1, b, &table);
+        put_block(out, width, 4 * i, &data1[4 * b..4 * b + 4], &table);
     }
 }
 
 // Block-compressed texture.
-#[tactic(auto, using(crate::proofs::Rows::band_below))]
+#[tactic(auto, using(crate::proofs::Rows::band_below, crate::proofs::Rows::pieces_none, crate::proofs::Rows::band_more, crate::proofs::Rows::rows_all), unfolding(paint::specs::Paint::painted))]
 pub fn decode_format5(
     out: &mut [u8],
     width: usize,
