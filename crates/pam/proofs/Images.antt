@@ -88,7 +88,7 @@ module _ (header entry : List ℕ) (made : Outcome (List ℕ)) {at : ℕ} (is : 
       go (result picture) q = record { picture = picture; made_is = q; counted = grind (arith, w, part_length); fits = grind (arith, w, part_length) }
 
 -- for the function that puts both
-pub ruleset images = (refusals.passed_on, headed_refused, put_same, mid_len, header_before, picture_some, length-append)
+pub ruleset images = (refusals.passed_on, put_same, mid_len, header_before, picture_some, length-append)
 
 -- an image, by what was located
 module _ (n : ℕ) (choice : Option ℕ) (b : List ℕ) where
