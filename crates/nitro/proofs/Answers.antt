@@ -285,7 +285,6 @@ module _ (n : ℕ) (b : List ℕ) where
 -- for the calls
 pub ruleset answers = (
   refusals.passed_on,
-  refusals.passed_as,
   not_laid,
   reading_refused,
   reading_found,
