@@ -49,31 +49,6 @@ pub fn texel7(data1: &[u8], n: usize) -> [u8; 4]
     direct(u16::view(data1, 2 * n))
 }
 
-// The number of the block that the texel in column x and row y is in.
-fn block_of(width: usize, x: usize, y: usize) -> usize
-    requires { Texels.block_of width x y < 2 ^ 64 }
-    ensures { result ≡ Texels.block_of width x y }
-{
-    width / 4 * (y / 4) + x / 4
-}
-
-// The two bits of the texel in column x and row y.
-fn block_texel(data1: &[u8], width: usize, x: usize, y: usize) -> u8
-    requires { 4 * Texels.block_of width x y + 4 ≤ length data1.now }
-    ensures { result ≡ One.block_texel width data1.now x y }
-{
-    let place = 4 * (y % 4) + x % 4;
-    ((u32::view(data1, 4 * block_of(width, x, y)) >> (2 * place)) & 3) as u8
-}
-
-// The extra of the block that the texel in column x and row y is in.
-fn block_extra(data2: &[u8], width: usize, x: usize, y: usize) -> u16
-    requires { 2 * Texels.block_of width x y + 2 ≤ length data2.now }
-    ensures { result ≡ One.block_extra width data2.now x y }
-{
-    u16::view(data2, 2 * block_of(width, x, y))
-}
-
 // The texel of format 5 in column x and row y.
 #[tactic(auto, unfolding(texels::specs::Texels::format5))]
 pub fn texel5(
@@ -87,7 +62,9 @@ pub fn texel5(
     requires { One.BlockThere width x y (length data1.now) (length data2.now) }
     ensures { result ≡ Texels.format5 width data1.now data2.now palette.entry.block.now palette.entry.off x y }
 {
-    let texel = block_texel(data1, width, x, y);
-    let extra = block_extra(data2, width, x, y);
+    let block = width / 4 * (y / 4) + x / 4;
+    let place = 4 * (y % 4) + x % 4;
+    let texel = ((u32::view(data1, 4 * block) >> (2 * place)) & 3) as u8;
+    let extra = u16::view(data2, 2 * block);
     block_color(palette, extra, texel)
 }
