@@ -7,13 +7,12 @@ ghost use Rattle.texels.specs.Texels as Texels;
 ghost use Rattle.paint.specs.Paint as Paint;
 ghost use Rattle.direct.specs.Words as Words;
 
+use one::texel7;
 use paint::put_texels;
 use std::array;
-use texels::{direct, extend_5bit_to_8bit};
-use util::unsigned::Unsigned;
+use texels::extend_5bit_to_8bit;
 
 // Direct colour texture, each texel by itself.
-#[tactic(auto, unfolding(texels::specs::Texels::format7))]
 fn decode_small_format7(out: &mut [u8], data1: &[u8])
     requires { 4 * (length data1.now / 2) ≤ length out.old }
     ensures { out.new ≡ Paint.painted (Texels.format7 data1.now) (length data1.now / 2) out.old }
@@ -24,7 +23,7 @@ fn decode_small_format7(out: &mut [u8], data1: &[u8])
         |n|
             requires { 2 * n + 2 ≤ length data1.now }
             ensures { result ≡ Texels.format7 data1.entry.now n }
-        { direct(u16::view(data1, 2 * n)) },
+        { texel7(data1, n) },
     );
 }
 
