@@ -10,7 +10,7 @@ ghost use Rattle.direct.specs.Words as Words;
 use one::texel7;
 use paint::put_texels;
 use std::array;
-use texels::extend_5bit_to_8bit;
+use texels::{Level, extend_5bit_to_8bit};
 
 // Direct colour texture, each texel by itself.
 fn decode_small_format7(out: &mut [u8], data1: &[u8])
@@ -31,8 +31,8 @@ fn decode_small_format7(out: &mut [u8], data1: &[u8])
 fn low_word(b: u8) -> u32
     ensures { result ≡ Words.low_word b }
 {
-    let red = extend_5bit_to_8bit(b & 31);
-    let green = extend_5bit_to_8bit(b >> 5);
+    let red = extend_5bit_to_8bit(Level { bits: b & 31 });
+    let green = extend_5bit_to_8bit(Level { bits: b >> 5 });
     u32::from_le_bytes([red, green, 0, 0])
 }
 
@@ -41,7 +41,9 @@ fn high_word(b: u8) -> u32
     ensures { result ≡ Words.high_word b }
 {
     let green = 66 * (b & 3);
-    let blue = extend_5bit_to_8bit((b >> 2) & 31);
+    let blue = extend_5bit_to_8bit(Level {
+        bits: (b >> 2) & 31,
+    });
     let alpha = 255 * (b >> 7);
     u32::from_le_bytes([0, green, blue, alpha])
 }
@@ -76,7 +78,7 @@ fn direct_by(lows: &[u32], highs: &[u32], lo: u8, hi: u8) -> [u8; 4]
     requires { Paint.Tabled Words.low_word lows.now × Paint.Tabled Words.high_word highs.now }
     ensures { result ≡ Texels.direct (lo + 256 * hi) }
 {
-    (lows[lo as usize] + highs[hi as usize]).to_le_bytes()
+    (lows[usize::from(lo)] + highs[usize::from(hi)]).to_le_bytes()
 }
 
 // Direct colour texture, by a table for each byte of a colour.

@@ -5,20 +5,20 @@
 ghost use Rattle.std.specs.Prelude.{◌≡◌, ◌+◌, ◌≤◌, ◌<◌, ◌^◌};
 ghost use Rattle.texels.specs.Texels as Texels;
 
-use texels::{Palette, blue, extend_5bit_to_8bit, green, red, rgb555a5};
+use texels::{Level, Palette, blue, extend_5bit_to_8bit, green, red, rgb555a5};
 
 // A palette colour with full alpha.
 #[tactic(auto, unfolding(texels::specs::Texels::opaque))]
 fn opaque(palette: Palette, i: u16) -> [u8; 4]
     ensures { result ≡ Texels.opaque palette.entry.block.now palette.entry.off 0 i }
 {
-    rgb555a5(palette.color(i), 31)
+    rgb555a5(palette.color(i), Level::OPAQUE)
 }
 
 // (a * v1 + b * v2) / (a + b) of two levels, widened.
-fn mix_level(a: u32, b: u32, v1: u8, v2: u8) -> u8
-    requires { (0 < a) × (a + b ≤ 8) × (v1 < 32) × (v2 < 32) }
-    ensures { result ≡ Texels.mix_channel a b (Texels.widen v1) (Texels.widen v2) }
+fn mix_level(a: u32, b: u32, v1: Level, v2: Level) -> u8
+    requires { (0 < a) × (a + b ≤ 8) }
+    ensures { result ≡ Texels.mix_channel a b (Texels.widen v1.bits) (Texels.widen v2.bits) }
 {
     let sum = a * u32::from(extend_5bit_to_8bit(v1)) + b * u32::from(extend_5bit_to_8bit(v2));
     (sum / (a + b)) as u8
@@ -34,7 +34,7 @@ fn mix(a: u32, b: u32, c1: u16, c2: u16) -> [u8; 4]
         mix_level(a, b, red(c1), red(c2)),
         mix_level(a, b, green(c1), green(c2)),
         mix_level(a, b, blue(c1), blue(c2)),
-        mix_level(a, b, 31, 31),
+        mix_level(a, b, Level::OPAQUE, Level::OPAQUE),
     ]
 }
 

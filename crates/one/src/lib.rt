@@ -8,7 +8,7 @@ ghost use Rattle.texels.specs.Index as Index;
 ghost use Rattle.one.specs.One as One;
 
 use modes::block_color;
-use texels::{Colors, Palette, a3_to_a5, direct, index_at, rgb555a5};
+use texels::{Colors, Level, Palette, a3_to_a5, direct, index_at, rgb555a5};
 use util::unsigned::Unsigned;
 
 // Texel n of format 1.
@@ -21,7 +21,7 @@ pub fn texel1(data1: &[u8], palette: Palette, n: usize) -> [u8; 4]
     rgb555a5(palette.color(u16::from(x & 31)), a3_to_a5(x >> 5))
 }
 
-// Texel n of formats 2 to 4, where a texel has 2, 4 or 8 bits.
+// Texel n of formats 2 to 4, where a texel has 1 to 8 bits.
 #[tactic(auto, unfolding(texels::specs::Texels::formats2to4))]
 pub fn texel2to4(data1: &[u8], bits: usize, colors: Colors, n: usize) -> [u8; 4]
     requires { Index.IndexThere bits n (length data1.now) }
@@ -37,7 +37,7 @@ pub fn texel6(data1: &[u8], palette: Palette, n: usize) -> [u8; 4]
     ensures { result ≡ Texels.format6 data1.now palette.entry.block.now palette.entry.off n }
 {
     let x = data1[n];
-    rgb555a5(palette.color(u16::from(x & 7)), x >> 3)
+    rgb555a5(palette.color(u16::from(x & 7)), Level { bits: x >> 3 })
 }
 
 // Texel n of format 7.

@@ -9,7 +9,7 @@ ghost use Rattle.texels.specs.Texels as Texels;
 ghost use Rattle.paint.specs.Paint as Paint;
 
 use std::array;
-use texels::{Colors, Palette, a3_to_a5, extend_5bit_to_8bit, index_at};
+use texels::{Colors, Level, Palette, a3_to_a5, extend_5bit_to_8bit, index_at};
 
 // Writes texel n of a picture.
 #[tactic(auto, using(texels::proofs::Texels::put_four))]
@@ -67,7 +67,7 @@ fn put_indexed<const BITS: usize>(
         |n|
             requires { Index.IndexThere BITS n (length data1.now) × (2 ^ BITS ≤ length table.now) }
             ensures { result ≡ Paint.indexed_texel BITS data1.entry.now table.entry.now n }
-        { table[index_at(data1, BITS, n) as usize] },
+        { table[usize::from(index_at(data1, BITS, n))] },
     );
 }
 
@@ -125,29 +125,30 @@ fn decode_bytes<F: Fn(u8) -> [u8; 4]>(out: &mut [u8], data1: &[u8], texel: F)
     ensures { (f : ℕ → List ℕ) → Paint.Makes (λ n. F.post texel (slice_index data1.now n)) (length data1.now) f → out.new ≡ Paint.painted f (length data1.now) out.old }
 {
     if data1.len() < 512 {
-        return put_bytes(out, data1, texel);
+        put_bytes(out, data1, texel);
+    } else {
+        let table: [[u8; 4]; 256] = array::from_fn(
+            |b|
+                requires { (b < 256) × F.IsAlwaysCallable texel }
+                ensures { F.post texel b result }
+            { texel(b as u8) },
+        );
+        put_bytes(
+            out,
+            data1,
+            |b|
+                ensures { result ≡ Paint.pixel_at table b }
+            { table[usize::from(b)] },
+        );
     }
-    let table: [[u8; 4]; 256] = array::from_fn(
-        |b|
-            requires { (b < 256) × F.IsAlwaysCallable texel }
-            ensures { F.post texel b result }
-        { texel(b as u8) },
-    );
-    put_bytes(
-        out,
-        data1,
-        |b|
-            ensures { result ≡ Paint.pixel_at table b }
-        { table[b as usize] },
-    );
 }
 
 // A texel with another alpha.
-fn with_alpha(pixel: [u8; 4], a5: u8) -> [u8; 4]
-    requires { a5 < 32 }
-    ensures { result ≡ Paint.with_alpha pixel a5 }
+fn with_alpha(pixel: [u8; 4], a5: Level) -> [u8; 4]
+    ensures { result ≡ Paint.with_alpha pixel a5.bits }
 {
-    [pixel[0], pixel[1], pixel[2], extend_5bit_to_8bit(a5)]
+    let [red, green, blue, _] = pixel;
+    [red, green, blue, extend_5bit_to_8bit(a5)]
 }
 
 // A3I5 translucent texture: 3-bit alpha, 5-bit colour index. Each byte of the data is a texel.
@@ -165,7 +166,7 @@ pub fn decode_format1(out: &mut [u8], data1: &[u8], palette: Palette)
         data1,
         |x|
             ensures { result ≡ Paint.with_alpha (Paint.pixel_at table (x % 32)) (Texels.alpha3 (x / 32)) }
-        { with_alpha(table[(x & 31) as usize], a3_to_a5(x >> 5)) },
+        { with_alpha(table[usize::from(x & 31)], a3_to_a5(x >> 5)) },
     )
 }
 
@@ -199,6 +200,6 @@ pub fn decode_format6(out: &mut [u8], data1: &[u8], palette: Palette)
         data1,
         |x|
             ensures { result ≡ Paint.with_alpha (Paint.pixel_at table (x % 8)) (x / 8) }
-        { with_alpha(table[(x & 7) as usize], x >> 3) },
+        { with_alpha(table[usize::from(x & 7)], Level { bits: x >> 3 }) },
     )
 }

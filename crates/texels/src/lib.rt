@@ -8,48 +8,67 @@ ghost use Rattle.texels.specs.Index as Index;
 
 use cursor::nth_u16;
 
-// A colour's red level, five bits.
-pub fn red(rgb555: u16) -> u8
-    ensures { result ≡ Texels.red rgb555 }
-{
-    (rgb555 & 31) as u8
+// A level or an alpha of five bits.
+#[derive(Clone, Copy, Debug, PartialEq, Eq)]
+pub struct Level {
+    pub bits: u8,
+    pub ghost below: { bits < 32 },
 }
 
-// A colour's green level, five bits.
-pub fn green(rgb555: u16) -> u8
-    ensures { result ≡ Texels.green rgb555 }
-{
-    ((rgb555 >> 5) & 31) as u8
+impl Level {
+    pub const CLEAR: Level = Level { bits: 0 };
+
+    pub const OPAQUE: Level = Level { bits: 31 };
 }
 
-// A colour's blue level, five bits.
-pub fn blue(rgb555: u16) -> u8
-    ensures { result ≡ Texels.blue rgb555 }
+// A colour's red level.
+pub fn red(rgb555: u16) -> Level
+    ensures { result.bits ≡ Texels.red rgb555 }
 {
-    ((rgb555 >> 10) & 31) as u8
+    Level {
+        bits: (rgb555 & 31) as u8,
+    }
 }
 
-// Widens a five-bit level to eight bits.
-pub fn extend_5bit_to_8bit(x: u8) -> u8
-    requires { x < 32 }
-    ensures { result ≡ Texels.widen x }
+// A colour's green level.
+pub fn green(rgb555: u16) -> Level
+    ensures { result.bits ≡ Texels.green rgb555 }
 {
-    (x << 3) | (x >> 2)
+    Level {
+        bits: ((rgb555 >> 5) & 31) as u8,
+    }
+}
+
+// A colour's blue level.
+pub fn blue(rgb555: u16) -> Level
+    ensures { result.bits ≡ Texels.blue rgb555 }
+{
+    Level {
+        bits: ((rgb555 >> 10) & 31) as u8,
+    }
+}
+
+// Widens a level to eight bits.
+pub fn extend_5bit_to_8bit(x: Level) -> u8
+    ensures { result ≡ Texels.widen x.bits }
+{
+    (x.bits << 3) | (x.bits >> 2)
 }
 
 // Widens a three-bit alpha to five bits.
-pub fn a3_to_a5(x: u8) -> u8
+pub fn a3_to_a5(x: u8) -> Level
     requires { x < 8 }
-    ensures { result ≡ Texels.alpha3 x }
+    ensures { result.bits ≡ Texels.alpha3 x }
 {
-    (x << 2) | (x >> 1)
+    Level {
+        bits: (x << 2) | (x >> 1),
+    }
 }
 
-// The RGBA bytes of a colour and a five-bit alpha.
+// The RGBA bytes of a colour and an alpha.
 #[tactic(auto, unfolding(crate::specs::Texels::pixel))]
-pub fn rgb555a5(rgb555: u16, a5: u8) -> [u8; 4]
-    requires { a5 < 32 }
-    ensures { result ≡ Texels.pixel rgb555 a5 }
+pub fn rgb555a5(rgb555: u16, a5: Level) -> [u8; 4]
+    ensures { result ≡ Texels.pixel rgb555 a5.bits }
 {
     [
         extend_5bit_to_8bit(red(rgb555)),
@@ -85,10 +104,14 @@ pub struct Colors<'a> {
 
 impl<'a> Colors<'a> {
     // The alpha of colour i.
-    fn alpha(self, i: u8) -> u8
-        ensures { (result ≡ Texels.index_alpha self.entry.clear0 i) × (result < 32) }
+    fn alpha(self, i: u8) -> Level
+        ensures { result.bits ≡ Texels.index_alpha self.entry.clear0 i }
     {
-        if self.clear0 && i == 0 { 0 } else { 31 }
+        if self.clear0 && i == 0 {
+            Level::CLEAR
+        } else {
+            Level::OPAQUE
+        }
     }
 
     // A texel whose colour index is i.
@@ -100,7 +123,7 @@ impl<'a> Colors<'a> {
     }
 }
 
-// The colour index of texel n, where a texel has 2, 4 or 8 bits.
+// The colour index of texel n, where a texel has 1 to 8 bits.
 pub fn index_at(data1: &[u8], bits: usize, n: usize) -> u8
     requires { Index.IndexThere bits n (length data1.now) }
     ensures { result ≡ Texels.texel_bits bits data1.now n }
@@ -110,10 +133,14 @@ pub fn index_at(data1: &[u8], bits: usize, n: usize) -> u8
 }
 
 // The alpha of a texel of format 7, by bit 15 of its colour.
-fn direct_alpha(rgb555: u16) -> u8
-    ensures { (result ≡ Texels.direct_alpha rgb555) × (result < 32) }
+fn direct_alpha(rgb555: u16) -> Level
+    ensures { result.bits ≡ Texels.direct_alpha rgb555 }
 {
-    if rgb555 >> 15 == 0 { 0 } else { 31 }
+    if rgb555 >> 15 == 0 {
+        Level::CLEAR
+    } else {
+        Level::OPAQUE
+    }
 }
 
 // A texel of format 7 by its colour.
