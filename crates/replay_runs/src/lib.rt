@@ -20,9 +20,9 @@ pub fn run_case() -> Result<Option<bool>, Broken> {
     let Ok(first) = next_array::<1>() else {
         return Ok(None);
     };
-    match first[0] {
-        b'B' => run_block().map(Some),
-        b'D' => run_direct().map(Some),
+    match first {
+        [b'B'] => run_block().map(Some),
+        [b'D'] => run_direct().map(Some),
         _ => Err(Broken),
     }
 }
