@@ -1,4 +1,4 @@
-// Reading the list of cases that the program `replay` runs, from standard input: bytes, numbers and parts, and what a case comes to.
+// Reading the list of cases that the program `replay` runs, from standard input: bytes, arrays of bytes, and parts behind their length.
 
 #![tactic(auto)]
 
@@ -10,7 +10,7 @@ use report::STDIN_FILENO;
 pub const MAX_PART: usize = 4096;
 
 // The list is broken: it is cut, or a length is over its limit.
-#[derive(Clone, Copy)]
+#[derive(Clone, Copy, Debug, PartialEq, Eq)]
 pub struct Broken;
 
 // Reads the list's next len bytes to the start of the buffer, and returns them. The list is broken where there are fewer, or the buffer is

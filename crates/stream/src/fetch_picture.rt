@@ -8,7 +8,7 @@ use crate::fetch::{Attempt, Fetched, fetch};
 use decode::picture::picture;
 use errors::Refusal;
 
-#[derive(Clone, Copy)]
+#[derive(Clone, Copy, Debug, PartialEq, Eq)]
 struct Picture {
     n: usize,
     choice: Option<usize>,

@@ -11,7 +11,7 @@ use crate::fetch::{Attempt, Fetched, fetch};
 use errors::Refusal;
 use nitro::tex::{Counts, read_tex};
 
-#[derive(Clone, Copy)]
+#[derive(Clone, Copy, Debug, PartialEq, Eq)]
 struct Reading;
 
 impl Attempt for Reading {
