@@ -11,8 +11,7 @@ ghost use Rattle.answer_palettes.specs.Palettes.{text_bytes, record_bytes, palet
 use answer_bytes::Answer;
 use errors::Refusal;
 use name::Name;
-use nitro::tex;
-use nitro::tex::PaletteRecord;
+use nitro::tex::{self, PaletteRecord};
 
 // Puts a text behind its length.
 #[tactic(auto, using(answer_bytes::proofs::Extended::extended_twice))]

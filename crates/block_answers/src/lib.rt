@@ -13,8 +13,7 @@ use answer_palettes::{put_pal_block, put_palettes};
 use answer_pictures::put_pictures;
 use answer_textures::put_textures;
 use errors::Refusal;
-use nitro::tex;
-use nitro::tex::Counts;
+use nitro::tex::{self, Counts};
 
 // Puts all that is answered of a block that is read, behind class 0.
 #[tactic(auto, using(answer_bytes::proofs::Extended::extended_twice))]
