@@ -5,7 +5,6 @@
 #![tactic(auto)]
 
 use arguments::{parse_choice, parse_number};
-use cursor::part_at;
 use show::{MAX_BLOCK, MAX_PAM};
 use std::env::FillError;
 use std::io::{ErrorKind, Read};
@@ -63,12 +62,7 @@ fn read_file<'a>(file: &mut impl Read, input: &'a mut [u8; MAX_BLOCK + 1]) -> &'
     let mut room = &mut input[..];
     let _ = io::copy(file, &mut room);
     let left = room.len();
-    part_at(input, 0, input.len().saturating_sub(left))
-}
-
-// An image stands at the start of the output.
-fn write_image(rt: &impl Print, out: &[u8; MAX_PAM], len: usize) -> io::Result<()> {
-    rt.write_all(part_at(out, 0, len))
+    &input[..input.len().saturating_sub(left)]
 }
 
 // What the text of an error says. Behind the system's words std's text has the error's number, which is not told.
@@ -98,6 +92,7 @@ fn open<R: Files>(rt: &R, path: &[u8]) -> io::Result<R::File> {
     fs::open(rt, path)
 }
 
+// Writes the image, which stands at the start of the output, or why there is none.
 fn show(
     rt: &impl Print,
     err: &impl Print,
@@ -108,7 +103,7 @@ fn show(
     let mut out = [0; MAX_PAM];
     let file = read_file(file, &mut input);
     match show::show(file, request.n, request.choice, &mut out) {
-        Ok(len) => write_image(rt, &out, len),
+        Ok(len) => rt.write_all(&out[..len]),
         Err(unshown) => println!(err; "{unshown}"),
     }
 }

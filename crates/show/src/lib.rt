@@ -2,7 +2,7 @@
 
 #![tactic(auto)]
 
-ghost use Rattle.std.specs.Prelude.{◌≡◌, Some};
+ghost use Rattle.std.specs.Prelude.{◌≡◌, ◌≤◌, length, IfOk, Some};
 ghost use Rattle.show.specs.Display.{unshown_text};
 ghost use Rattle.show.specs.Show.{shown, shown_of, shown_output};
 ghost use Rattle.show.specs.declared.Unshown.TheVariants.{Refused};
@@ -56,6 +56,7 @@ pub fn show(
 ) -> Result<usize, Unshown>
     ensures value { shown result ≡ shown_of file.now n choice }
     ensures out_after { out.new ≡ shown_output file.now n choice out.old }
+    ensures in_bounds { IfOk result (λ len. len ≤ length out.new) }
 {
     if MAX_BLOCK < file.len() {
         return Err(Unshown::TooLong);
