@@ -65,10 +65,9 @@ impl Refusal {
     pub fn needed(self) -> Option<usize>
         ensures { result ≡ refusal_needed self }
     {
-        if let Refusal::Short(needed) = self {
-            Some(needed)
-        } else {
-            None
+        match self {
+            Refusal::Short(needed) => Some(needed),
+            _ => None,
         }
     }
 
