@@ -2,7 +2,7 @@
 
 #![tactic(auto)]
 
-ghost use Rattle.std.specs.Prelude.{◌≡◌, [], ◌∷◌, ◌<◌, IfOk};
+ghost use Rattle.std.specs.Prelude.{◌≡◌, [], ◌∷◌, ◌<◌, ◌≤◌, length, IfOk};
 ghost use Rattle.io.specs.Counts.{IsPrefixLen};
 ghost use Rattle.util.specs.Outcome.{result as answered};
 ghost use Rattle.output.specs.Output.{Writes};
@@ -86,19 +86,21 @@ fn read(input: &[u8]) -> Result<Tex<'_>, Refusal>
     Tex::read(input)
 }
 
-// The whole listing.
-#[tactic(auto, using(text::proofs::Puts::puts, crate::proofs::Listings::listing_read))]
-fn put_listing(writer: &mut Writer<'_>, input: &[u8])
-    requires { HasRoom (Listing.listing_text input.now) writer.old }
-    ensures { Adds (Listing.listing_text input.now) writer.old writer.new }
+// Writes the whole listing, and returns its length. The caller shows that there is room.
+#[tactic(auto, using(text::proofs::Puts::puts, text::proofs::Puts::whole, crate::proofs::Listings::listing_read))]
+fn put_listing(input: &[u8], out: &mut [u8]) -> usize
+    requires { length (Listing.listing_text input.now) ≤ length out.old }
+    ensures { Writes (answered (Listing.listing_text input.now)) out.old (answered result) out.new }
 {
+    let mut writer = Writer::new(out);
     match read(input) {
         Ok(tex) => {
-            put_list(writer, tex, Kind::Texture);
-            put_list(writer, tex, Kind::Palette);
+            put_list(&mut writer, tex, Kind::Texture);
+            put_list(&mut writer, tex, Kind::Palette);
         }
-        Err(refusal) => put_refused(writer, refusal.number(), refusal.returned()),
+        Err(refusal) => put_refused(&mut writer, refusal.number(), refusal.returned()),
     }
+    writer.at
 }
 
 // Writes the listing of a block to an output that has room for every listing, and returns its length. A block that is refused is listed as one
@@ -108,9 +110,7 @@ pub fn list_whole(input: &[u8], out: &mut [u8; MAX_LISTING]) -> usize
     ensures value { Writes (answered (Listing.listing_text input.now)) out.old (answered result) out.new }
     ensures in_bounds { IsPrefixLen result out.new }
 {
-    let mut writer = Writer { out, at: 0 };
-    put_listing(&mut writer, input);
-    writer.at
+    put_listing(input, out)
 }
 
 // The same, to any output, which is not written where the listing is longer.
@@ -119,11 +119,9 @@ pub fn list(input: &[u8], out: &mut [u8]) -> Result<usize, Refusal>
     ensures { Writes (answered (Listing.listing_text input.now)) out.old (result_outcome result) out.new }
 {
     if MAX_LISTING <= out.len() {
-        let mut writer = Writer { out, at: 0 };
-        put_listing(&mut writer, input);
-        return Ok(writer.at);
+        return Ok(put_listing(input, out));
     }
     let mut text = [0; MAX_LISTING];
-    let len = list_whole(input, &mut text);
+    let len = put_listing(input, &mut text);
     write(&text[..len], out)
 }

@@ -30,7 +30,7 @@ pub fn write_refused(number: usize, returned: usize, out: &mut [u8; MAX_REFUSED]
     ensures value { Writes (answered (refused_line number returned)) out.old (answered result) out.new }
     ensures in_bounds { IsPrefixLen result out.new }
 {
-    let mut writer = Writer { out, at: 0 };
+    let mut writer = Writer::new(out);
     put_refused(&mut writer, number, returned);
     writer.at
 }

@@ -2,7 +2,7 @@
 
 #![tactic(auto)]
 
-ghost use Rattle.std.specs.Prelude.{◌++◌};
+ghost use Rattle.std.specs.Prelude.{◌≡◌, ◌++◌};
 ghost use Rattle.util.specs.Outcome.{result as answered};
 ghost use Rattle.output.specs.Output.{Writes};
 ghost use Rattle.errors.specs.Refusal.{result_outcome};
@@ -19,6 +19,14 @@ pub struct Writer<'a> {
 }
 
 impl<'a> Writer<'a> {
+    // At the start of an output.
+    pub fn new(out: &'a mut [u8]) -> Writer<'a>
+        ensures same_output { result.out ≡ out.entry }
+        ensures at_start { result.at ≡ 0 }
+    {
+        Writer { out, at: 0 }
+    }
+
     #[tactic(auto, using(crate::proofs::Puts::put_copy))]
     pub fn put(&mut self, text: &[u8])
         requires { HasRoom text.now self.old }
