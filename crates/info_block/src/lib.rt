@@ -12,7 +12,7 @@ ghost use Rattle.info_block.specs.Lists.{listed};
 pub mod name_list;
 
 use errors::{Kind, Refusal};
-use name_list::{NameList, datum_size, name_at};
+use name_list::{NameList, datum_size, list_len};
 use scripts::take;
 use util::unsigned::Unsigned;
 
@@ -23,7 +23,7 @@ fn read_whole(block: &[u8], kind: Kind, pos: u32, count: u8) -> Result<NameList<
     ensures of_kind { IfOk result (λ list. list.kind ≡ kind) }
 {
     let count = usize::from(count);
-    let bytes = take(block, pos as usize, name_at(kind, count, count))?;
+    let bytes = take(block, pos as usize, list_len(kind, count))?;
     if u8::view(bytes, 0) != 0 {
         return Err(Refusal::Dummy(kind));
     }

@@ -17,12 +17,20 @@ pub(crate) fn datum_size(kind: Kind) -> usize
     }
 }
 
-// Where name n of a list of count entries begins, from the list's start. Behind the last name the list ends.
-pub(crate) fn name_at(kind: Kind, count: usize, n: usize) -> usize
+// Where name n of a list of count entries begins, from the list's start.
+fn name_at(kind: Kind, count: usize, n: usize) -> usize
     requires { InfoBlock.name_at kind count n < 2 ^ 64 }
     ensures { result ≡ InfoBlock.name_at kind count n }
 {
     16 + 4 * count + datum_size(kind) * count + 16 * n
+}
+
+// The length of a list of count entries, which ends behind its last name.
+pub(crate) fn list_len(kind: Kind, count: usize) -> usize
+    requires { list_length kind count < 2 ^ 64 }
+    ensures { result ≡ list_length kind count }
+{
+    name_at(kind, count, count)
 }
 
 // The name of the 16 bytes at pos.
@@ -62,7 +70,7 @@ impl<'a> NameList<'a> {
         ensures value { listed result ≡ list_at kind pos count block.now }
         ensures of_kind { result.kind ≡ kind }
     {
-        let len = name_at(kind, count, count);
+        let len = list_len(kind, count);
         NameList {
             kind,
             count,
@@ -79,7 +87,7 @@ impl<'a> NameList<'a> {
     }
 }
 
-impl<'a> Entry<'a> {
+impl Entry<'_> {
     ghost use Rattle.info_block.specs.InfoBlock.{datum_at, entry_name, entry_number};
     ghost use Rattle.info_block.specs.Lists.{listed};
 

@@ -67,7 +67,7 @@ impl Header {
     {
         Place {
             pos: self.pal_block_off as usize,
-            len: 8 * (self.pal_block_len_shr_3 as usize),
+            len: 8 * usize::from(self.pal_block_len_shr_3),
         }
     }
 
@@ -106,7 +106,7 @@ impl Header {
         ensures { (result ≡ Positions.list_pos kind self) × (result < 2 ^ 32) }
     {
         match kind {
-            Kind::Texture => self.texture_off as usize,
+            Kind::Texture => usize::from(self.texture_off),
             Kind::Palette => self.palette_off as usize,
         }
     }
@@ -135,6 +135,5 @@ pub fn params_at(texture: Entry) -> TextureParams
 pub fn off_at(palette: Entry) -> u32
     ensures { result ≡ 8 * entry_number palette.entry.list.kind 2 (listed palette.entry.list) palette.entry.n }
 {
-    let units: u16 = palette.number();
-    8 * u32::from(units)
+    8 * u32::from(palette.number::<u16>())
 }

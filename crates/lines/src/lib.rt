@@ -31,7 +31,7 @@ pub fn put_texture(writer: &mut Writer<'_>, n: usize, texture: TextureRecord)
     let params = texture.params;
     writer.put_number(n, b" ");
     put_name(writer, texture.name, b" ");
-    writer.put_number(params.format().number() as usize, b" ");
+    writer.put_number(usize::from(params.format().number()), b" ");
     writer.put_number(params.width() as usize, b" ");
     writer.put_number(params.height() as usize, b" ");
     writer.put_field(texture.wrap_s.word(), b" ");

@@ -177,8 +177,5 @@ pub fn texture_data2(block: &[u8], n: usize) -> &[u8]
 pub fn pal_block(block: &[u8]) -> &[u8]
     ensures { result.now ≡ Calls.pal_block_of (run reading block.now) }
 {
-    let Ok(tex) = Tex::read(block) else {
-        return &[];
-    };
-    tex.layout.header.pal_block().part(block)
+    Tex::read(block).map_or(&[], |tex| tex.layout.header.pal_block().part(block))
 }

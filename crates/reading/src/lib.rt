@@ -4,11 +4,11 @@
 
 #![tactic(auto)]
 
-ghost use Rattle.std.specs.Prelude.{◌≡◌};
+ghost use Rattle.std.specs.Prelude.{◌≡◌, ◌+◌, ◌<◌, ◌^◌};
 ghost use Rattle.util.specs.Outcome.{result as answered};
 ghost use Rattle.errors.specs.Refusal.{result_outcome, outcome_as};
 ghost use Rattle.errors.specs.declared.Kind.TheVariants as kinds;
-ghost use Rattle.scripts.specs.Script.{run, outcome_of, passing};
+ghost use Rattle.scripts.specs.Script.{bytes_at, run, outcome_of, passing};
 ghost use Rattle.info_block.specs.Lists.{listed};
 ghost use Rattle.reading.specs.Tex as Tex;
 ghost use Rattle.reading.specs.Layouts as Layouts;
@@ -17,7 +17,7 @@ pub mod tex;
 
 use errors::{Kind, Refusal};
 use info_block::name_list::NameList;
-use layout::{Header, Layout, params_at};
+use layout::{Header, Layout, Place, params_at};
 use nds::texture_formats::TextureFormat;
 use nds::texture_params::TextureParams;
 use scripts::take;
@@ -60,13 +60,20 @@ fn read_header(block: &[u8]) -> Result<Header, Refusal>
     }
 }
 
+// Takes the bytes of a place.
+fn take_place(block: &[u8], place: Place) -> Result<&[u8], Refusal>
+    requires { place.pos + place.len < 2 ^ 64 }
+    ensures { outcome_as (λ part. part.now) result ≡ outcome_of (run (bytes_at place.pos place.len) block.now) answered }
+{
+    take(block, place.pos, place.len)
+}
+
 // Takes the palette block.
 #[tactic(auto, unfolding(crate::specs::Tex::read_pal_block))]
 fn take_pal_block(block: &[u8], header: Header) -> Result<&[u8], Refusal>
     ensures { outcome_as (λ part. part.now) result ≡ outcome_of (run (Tex.read_pal_block header) block.now) answered }
 {
-    let place = header.pal_block();
-    take(block, place.pos, place.len)
+    take_place(block, header.pal_block())
 }
 
 // Takes the second data, which a texture of format 5 alone has.
@@ -75,8 +82,7 @@ fn take_data2(block: &[u8], header: Header, params: TextureParams) -> Result<&[u
     ensures { outcome_as (λ part. part.now) result ≡ outcome_of (run (Tex.read_second header params.0) block.now) answered }
 {
     if params.format() == TextureFormat::Compressed {
-        let place = header.data2(params);
-        take(block, place.pos, place.len)
+        take_place(block, header.data2(params))
     } else {
         Ok(&[])
     }
@@ -87,8 +93,7 @@ fn take_data2(block: &[u8], header: Header, params: TextureParams) -> Result<&[u
 fn take_data(block: &[u8], header: Header, params: TextureParams) -> Result<(), Refusal>
     ensures { result_outcome result ≡ passing (Tex.read_data header params.0) block.now }
 {
-    let place = header.data1(params);
-    take(block, place.pos, place.len)?;
+    take_place(block, header.data1(params))?;
     take_data2(block, header, params)?;
     Ok(())
 }
@@ -110,7 +115,7 @@ fn take_all_data(block: &[u8], header: Header, list: NameList) -> Result<usize, 
 fn read_textures(block: &[u8], header: Header) -> Result<usize, Refusal>
     ensures { result_outcome result ≡ Layouts.counting (Tex.read_textures header) block.now }
 {
-    let list = info_block::read(block, Kind::Texture, header.texture_off as u32)?;
+    let list = info_block::read(block, Kind::Texture, u32::from(header.texture_off))?;
     take_all_data(block, header, list)
 }
 
