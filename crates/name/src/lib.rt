@@ -71,10 +71,7 @@ impl Name {
         ensures { Writes (answered (Text.display_text self.0)) out.old (result_outcome result) out.new }
     {
         let mut text = [0; 32];
-        let mut writer = Writer {
-            out: &mut text,
-            at: 0,
-        };
+        let mut writer = Writer::new(&mut text);
         for b in &self.0[..self.trimmed_len()] {
             let mut character = [0; 4];
             writer.put(display_char(*b).encode_utf8(&mut character).as_bytes());

@@ -63,7 +63,7 @@ fn image_at(block: &[u8], places: Places, out: &mut [u8]) -> Result<usize, Refus
 {
     let at = header_len(places.params).min(out.len());
     let len = picture_at(block, places, &mut out[at..])?;
-    let mut writer = Writer { out, at: 0 };
+    let mut writer = Writer::new(out);
     put_header(&mut writer, places.params);
     Ok(writer.at + len)
 }
