@@ -4,7 +4,7 @@
 
 use cursor::part_at;
 use errors::Refusal;
-use report::{number, numbers, text};
+use report::{number, refused_as, text};
 
 // The places of texels 0 to 3, 7, 8, 36 and 63, which every picture has.
 const TEXELS: [usize; 8] = [0, 4, 8, 12, 28, 32, 144, 252];
@@ -29,15 +29,13 @@ pub fn written(answer: Result<usize, Refusal>, out: &[u8]) {
         Ok(n) => {
             text(b" ok");
             number(n as u64);
-            number(checksum(out));
-            for pos in TEXELS {
-                texel(out, pos);
-            }
         }
-        Err(refusal) => {
-            text(b" refused");
-            numbers(&[refusal.number(), refusal.returned()]);
-            number(checksum(out));
+        Err(refusal) => refused_as(b" refused", refusal),
+    }
+    number(checksum(out));
+    if answer.is_ok() {
+        for pos in TEXELS {
+            texel(out, pos);
         }
     }
 }

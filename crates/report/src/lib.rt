@@ -52,10 +52,15 @@ pub fn numbers(all: &[usize]) {
     }
 }
 
-// Prints that a call was declined: the refusal's number and what is returned with it.
-pub fn refused(refusal: Refusal) {
-    text(b" | no");
+// Prints a text, and behind it a refusal's number and what is returned with it.
+pub fn refused_as(title: &[u8], refusal: Refusal) {
+    text(title);
     numbers(&[refusal.number(), refusal.returned()]);
+}
+
+// Prints that a call was declined.
+pub fn refused(refusal: Refusal) {
+    refused_as(b" | no", refusal);
 }
 
 // Prints an answer: what it holds, by `value`, or that the call was declined.
