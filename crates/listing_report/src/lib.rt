@@ -3,7 +3,6 @@
 #![tactic(auto)]
 
 use cases::{Sum, filled};
-use cursor::part_at;
 use listing::list;
 use report::{counted, summed, text};
 
@@ -11,13 +10,14 @@ use report::{counted, summed, text};
 const ROOM: usize = 22400;
 
 // Shows the call's answer, the sum of the output as the call left it, and the text, which is nothing where the call was declined.
+#[tactic(auto, unfolding(output::specs::Output::write_outcome, output::specs::Output::write_output))]
 fn listed(input: &[u8], out: &mut [u8]) {
     let answer = list(input, out);
     let mut sum = Sum::new();
     sum.add_all(out);
     counted(answer);
     summed(sum.0);
-    text(part_at(out, 0, answer.unwrap_or(0)));
+    text(&out[..answer.unwrap_or(0)]);
 }
 
 // The same, where the output has len bytes, which are filled. A greater len than the most shows nothing.
