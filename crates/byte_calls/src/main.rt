@@ -17,13 +17,13 @@ fn number(n: u64) {
 // A length that exceeds 64 bits is written as 2^64 and what is left.
 fn short(needed: Needed) {
     text(b"short ");
-    if needed.0 >> 64 != 0 {
+    if needed.0 > u128::from(u64::MAX) {
         text(b"2^64 + ");
     }
-    number((needed.0 & u128::from(u64::MAX)) as u64);
+    number((needed.0 % (1 << 64)) as u64);
 }
 
-// Writes bits lo to hi - 1 of a number, behind the name of its type.
+// Writes bits lo to hi - 1 of a number, behind the name that the stored output has for the call.
 fn field<T: Unsigned>(name: &[u8], x: T, lo: u32, hi: u32) {
     text(name);
     number(u64::from(bits(x, lo, hi).into()));
