@@ -3,8 +3,7 @@
 #![tactic(auto)]
 
 use errors::Refusal;
-use nitro::tex;
-use nitro::tex::{PaletteRecord, TextureRecord};
+use nitro::tex::{self, PaletteRecord, TextureRecord};
 use report::{hex, number, text, word};
 
 // Prints a refusal's number, and for a short block what is returned beside it.

@@ -4,8 +4,7 @@
 
 use cases::Sum;
 use errors::Refusal;
-use nitro::tex;
-use nitro::tex::{Counts, TextureRecord};
+use nitro::tex::{self, Counts, TextureRecord};
 use report::{answered, numbers};
 use told::{alpha_number, wrap_number};
 
