@@ -12,7 +12,7 @@ use stream_sums::{add_parts, palette, reading, texture};
 pub const ROOM: usize = 520;
 
 // The records and the picture that a case asks for.
-#[derive(Clone, Copy)]
+#[derive(Clone, Copy, Debug, PartialEq, Eq)]
 pub struct Request {
     pub texture: usize,
     // The palette whose record is asked for.
