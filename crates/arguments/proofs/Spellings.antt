@@ -1,13 +1,12 @@
 -- The laws of the numbers that texts spell. Assumes nothing.
-use Rattle.std.specs.Prelude.{Option, None, Some}
+use Rattle.std.specs.Prelude.{None, Some}
 use Prim.Native.Nat.{ℕ, zero, suc, ◌+◌, ◌/◌, ◌%◌, ◌≤◌, ◌<◌}
-use mathlib.Core.Path.{◌≡◌, refl, ap, ◌∙◌}
+use mathlib.Core.Path.{◌≡◌, refl, ◌∙◌}
 use mathlib.Core.Bool.{Bool, true, false, cond, ◌&&◌}
 use mathlib.Core.List.{List, [], ◌∷◌, ◌++◌}
-use native.Mathlib.Numerals.{add-one}
 use native.Mathlib.Omega.{arith}
-use lib.ListN.{length, get_or, drop, length-append, drop_of_length-le}
-use lib.Seq.{drop-cons}
+use lib.ListN.{length, get_or, length-append}
+use Rattle.std.specs.List.{fold}
 use lib.Dec.{ltb}
 use borrow.Author.Tests.{ltb-true, ltb-false, le-leb}
 use Rattle.text.specs.Text.{decimal_below, decimal}
@@ -22,19 +21,9 @@ pub by_number : (text : List ℕ) → is_dash text ≡ false → choice_by (numb
 unfolding choice_of
 by_number text e = rw e
 
--- what a text comes to behind digits that spell n
-unfoldable pub number_from : (n : ℕ) → List ℕ → Option ℕ
-number_from n text = cond (all_digits text) (Some (capped (spelled_from n text))) None
-
-pub none_spelled : (text : List ℕ) → length text ≡ 0 → number_of text ≡ None
-unfolding number_of
-none_spelled [] e = refl
-none_spelled (b ∷ later) e = absurd (omega arith)
-
-pub some_spelled : (text : List ℕ) → 0 < length text → number_of text ≡ number_from 0 text
-unfolding number_of number_from
-some_spelled [] h = absurd (omega arith)
-some_spelled (b ∷ later) h = refl
+-- a number and one digit more, as it is capped
+abbrev pub one_more : (n b : ℕ) → ℕ
+one_more n b = capped (with_digit n b)
 
 -- numbers that are capped alike are capped alike with the same digits behind them
 capped_digit : (m n b : ℕ) → capped m ≡ capped n → capped (with_digit m b) ≡ capped (with_digit n b)
@@ -45,28 +34,49 @@ unfolding spelled_from
 capped_same m n [] e = e
 capped_same m n (b ∷ later) e = capped_same (with_digit m b) (with_digit n b) later (capped_digit m n b e)
 
--- the byte at i, and the text behind it
-module _ (text : List ℕ) (i n : ℕ) (h : i < length text) where
-  first : drop i text ≡ get_or text i 0 ∷ drop (i + 1) text
-  first = rw (add-one, drop-cons text i 0)
+-- what digits spell is their fold
+spelled_fold : (n : ℕ) (text : List ℕ) → n ≤ 65535 → capped (spelled_from n text) ≡ fold one_more n text
+unfolding spelled_from
+spelled_fold n [] h = omega arith
+spelled_fold n (b ∷ later) h =
+    capped_same (with_digit n b) (one_more n b) later (omega arith) ∙ spelled_fold (one_more n b) later (omega arith)
 
-  pub no_digit : is_digit (get_or text i 0) ≡ false → number_from n (drop i text) ≡ None
-  unfolding number_from all_digits
-  no_digit e = rw (first, e)
+all_by_place : (text : List ℕ) → ((k : ℕ) → k < length text → is_digit (get_or text k 0) ≡ true) → all_digits text ≡ true
+unfolding all_digits
+all_by_place [] h = refl
+all_by_place (b ∷ later) h = rw (h 0 (omega arith), all_by_place later (λ k l. h (suc k) (omega arith)))
 
-  pub one_digit : is_digit (get_or text i 0) ≡ true
-      → number_from n (drop i text) ≡ number_from (capped (with_digit n (get_or text i 0))) (drop (i + 1) text)
-  unfolding number_from all_digits spelled_from
-  one_digit e =
-      let m = with_digit n (get_or text i 0) in
-      rw (first, e, capped_same (capped m) m (drop (i + 1) text) (omega arith))
+pub digits_spelled : (text : List ℕ) → 0 < length text → ((k : ℕ) → k < length text → is_digit (get_or text k 0) ≡ true)
+    → number_of text ≡ Some (fold one_more 0 text)
+unfolding number_of
+digits_spelled [] l h = absurd (omega arith)
+digits_spelled (b ∷ later) l h = rw (all_by_place (b ∷ later) h, spelled_fold 0 (b ∷ later) (omega arith))
 
--- all digits are read
-pub all_read : (text : List ℕ) (i n : ℕ) → length text ≤ i → n ≤ 65535 → number_from n (drop i text) ≡ Some n
-unfolding number_from all_digits spelled_from
-all_read text i n past h = rw (drop_of_length-le text past) (ap Some (omega arith))
+and_false : (t : Bool) → (t && false) ≡ false
+and_false true = refl
+and_false false = refl
 
-pub ruleset spellings = (none_spelled, some_spelled, no_digit, one_digit, all_read)
+one_other : (text : List ℕ) (k : ℕ) → is_digit (get_or text k 48) ≡ false → all_digits text ≡ false
+unfolding all_digits
+one_other [] k e = cc
+one_other (b ∷ later) zero e = rw e
+one_other (b ∷ later) (suc k) e = rw (one_other later k e) (and_false (is_digit b))
+
+-- one byte is no digit
+pub other_spelled : (text : List ℕ) (k : ℕ) → is_digit (get_or text k 48) ≡ false → number_of text ≡ None
+unfolding number_of
+other_spelled [] k e = refl
+other_spelled (b ∷ later) k e = rw (one_other (b ∷ later) k e)
+
+pub none_spelled : (text : List ℕ) → length text ≡ 0 → number_of text ≡ None
+unfolding number_of
+none_spelled [] e = refl
+none_spelled (b ∷ later) e = absurd (omega arith)
+
+some_spelled : (text : List ℕ) → 0 < length text → all_digits text ≡ true → number_of text ≡ Some (capped (spelled_from 0 text))
+unfolding number_of
+some_spelled [] h e = absurd (omega arith)
+some_spelled (b ∷ later) h e = rw e
 
 -- digits behind others
 spelled_behind : (n : ℕ) (first later : List ℕ) → spelled_from n (first ++ later) ≡ spelled_from (spelled_from n first) later
@@ -102,7 +112,7 @@ below_spelled (suc limit) n h = go (ltb n 10) refl (λ l. below_spelled limit (n
         (digits_behind (decimal_below limit (n / 10)) _ digits (last_digit n), rw (spelled_behind, spelled) (omega arith))
 
 pub decimal_spelled : (n : ℕ) → number_of (decimal n) ≡ Some (capped n)
-unfolding decimal decimal_below number_from
+unfolding decimal decimal_below
 decimal_spelled n =
     let (digits, spelled) = below_spelled (suc n) n (omega arith) in
-    some_spelled (decimal n) (rw length-append (omega arith)) ∙ rw (digits, spelled)
+    some_spelled (decimal n) (rw length-append (omega arith)) digits ∙ rw spelled

@@ -1,8 +1,7 @@
 -- What a private function asks for; no public contract cites it. Assumes nothing.
 use Rattle.std.specs.Prelude.{ℕ, ◌≤◌}
 
--- A digit's byte, behind digits that spell n.
-pub record Digit (n b : ℕ) : Type 0 where
+-- A digit's byte.
+pub record Digit (b : ℕ) : Type 0 where
   pub least : 48 ≤ b
   pub most : b ≤ 57
-  pub before : n ≤ 65535

@@ -11,29 +11,23 @@ const MAX_NUMBER: usize = 65535;
 
 // The number that is spelled by the digits of n and one digit more.
 fn with_digit(n: usize, digit: u8) -> usize
-    requires { Digit n digit }
+    requires { Digit digit }
     ensures { result ≡ Arguments.capped (Arguments.with_digit n digit) }
 {
-    let next = 10 * n + usize::from(digit - b'0');
-    next.min(MAX_NUMBER)
+    let digit = usize::from(digit - b'0');
+    n.saturating_mul(10).saturating_add(digit).min(MAX_NUMBER)
 }
 
 // A number in decimal digits, of which there is at least one. Other texts spell none.
-#[tactic(auto, using(crate::proofs::Spellings::spellings))]
+#[tactic(auto, using(crate::proofs::Spellings::none_spelled))]
 pub fn parse_number(text: &[u8]) -> Option<usize>
     ensures { result ≡ Arguments.number_of text.now }
 {
     if text.is_empty() {
         return None;
     }
-    let mut n = 0;
-    for &b in text {
-        if !b.is_ascii_digit() {
-            return None;
-        }
-        n = with_digit(n, b);
-    }
-    Some(n)
+    text.iter()
+        .try_fold(0, |n, &b| b.is_ascii_digit().then(|| with_digit(n, b)))
 }
 
 // A palette's number, or `-` for no palette. Other texts spell no choice.
