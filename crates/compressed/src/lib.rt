@@ -37,7 +37,7 @@ fn put_row(out: &mut [u8], n: usize, table: &[[u8; 4]; 4], row: u8)
         |c|
             requires { c < 4 }
             ensures { result ≡ Paint.pixel_at table.entry.now (row / 2 ^ (2 * c) % 2 ^ 2) }
-        { table[((row >> (2 * c)) & 3) as usize] },
+        { table[usize::from((row >> (2 * c)) & 3)] },
     );
 }
 

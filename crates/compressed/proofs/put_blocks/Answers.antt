@@ -13,7 +13,7 @@ loop-i-preserved c =
     let a = c.args in
     let table = c.block_colors-table.ensures in
     let kept : length c.put_block.new.out ≡ length c.loop-i.out = search rules in
-    let bytes : (k : ℕ) → get_or a.data1.now k 0 < 256 = λ k. omega (arith, c.shared_slice_known-1.given k) in
+    let bytes : (k : ℕ) → get_or a.data1.now k 0 < 256 = search rules in
     blocks_more c.loop-i.invariant (omega arith) _ c.put_block.ensures (omega arith)
     (λ r m. ap (row_bytes _) (bytes_there a.data1.now _ _ r (omega arith))
     ∙ (row_texels a.width a.row c.loop-i.i r _ a.data1.now a.data2.now a.palette.block.now a.palette.off m (omega arith) (omega arith)
