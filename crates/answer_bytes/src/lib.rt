@@ -75,7 +75,7 @@ impl Answer {
     pub fn put_u8(&mut self, n: usize)
         ensures { self.new ≡ extended self.old (n % 256 ∷ []) }
     {
-        self.put_bytes(&[(n % 256) as u8]);
+        self.put_bytes(&n.to_le_bytes()[..1]);
     }
 
     // Puts the low 32 bits of a number, in 4 bytes.
@@ -102,19 +102,21 @@ impl Answer {
     }
 
     // Puts class 0, and behind it the picture that `draw` writes to the room that is left. Where it is refused, its class stands in place of
-    // class 0.
+    // class 0, and nothing of what was drawn is put.
     pub fn put_picture<F: FnOnce(&mut [u8]) -> Result<usize, Refusal>>(&mut self, draw: F)
         requires { F.IsAlwaysCallable draw }
         ensures { PutsPicture (FnOnceReturnsAtMut F.FnOnce draw) self.old self.new }
     {
-        let mut room = [UNWRITTEN; ROOM];
-        let output = &mut room[..ROOM.saturating_sub(self.len + 1)];
+        let len = self.len;
+        self.put_u8(0);
+        let output = &mut self.room[self.len..];
+        output.fill(UNWRITTEN);
         match draw(output) {
-            Ok(n) => {
-                self.put_u8(0);
-                self.put_bytes(&output[..n.min(output.len())]);
+            Ok(n) => self.len += n.min(output.len()),
+            Err(refusal) => {
+                self.len = len;
+                self.put_class(refusal);
             }
-            Err(refusal) => self.put_class(refusal),
         }
     }
 

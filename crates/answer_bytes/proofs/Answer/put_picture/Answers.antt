@@ -1,33 +1,14 @@
 -- `Answer::put_picture` meets its contract: what `draw` drew to the unwritten room is what is put. Assumes nothing.
-use mathlib.Core.Path.{refl}
-use native.Mathlib.Omega.{arith}
-use Rattle.answer_bytes.proofs.Extended.{drawn_there, unwritten}
+use Rattle.std.proofs.Common.{rules}
+use Rattle.answer_bytes.proofs.Extended.{drawn, refused}
 use Rattle.answer_bytes.proofs.Answer.put_picture.Goals as goal
 
 pub returns-in-Ok : goal.returns-in-Ok
-returns-in-Ok g c = record {
-  answer = c.draw.result;
-  output = c.draw.new.arg2;
-  drawn = record {
-    shown = _;
-    shows = unwritten c.self.inside.room c.args.self.now c.self.inside.len c.saturating_sub.result c.self.invariant (omega arith) c.self.view_is c.saturating_sub.ensures;
-    left = _;
-    met = c.draw.ensures;
-    leaves = refl;
-  };
-  put = rw c.in-Ok.is (drawn_there c.args.self.now c.draw.new.arg2 c.in-Ok.n c.min.result c.put_u8.ensures c.min.ensures c.put_bytes.ensures);
-}
+returns-in-Ok g c =
+    drawn g.F.FnOnce c.args.draw c.args.self.now c.self-2.inside.room c.self-2.inside.len _ _ c.self-2.invariant (search rules) (search rules)
+    (search rules) c.draw.ensures c.in-Ok.is (search rules) (search rules)
 
 pub returns-in-Err : goal.returns-in-Err
-returns-in-Err g c = record {
-  answer = c.draw.result;
-  output = c.draw.new.arg2;
-  drawn = record {
-    shown = _;
-    shows = unwritten c.self.inside.room c.args.self.now c.self.inside.len c.saturating_sub.result c.self.invariant (omega arith) c.self.view_is c.saturating_sub.ensures;
-    left = _;
-    met = c.draw.ensures;
-    leaves = refl;
-  };
-  put = rw c.in-Err.is c.put_class.ensures;
-}
+returns-in-Err g c =
+    refused g.F.FnOnce c.args.draw c.args.self.now c.self-2.inside.room c.self-2.inside.len _ _ c.self-2.invariant (search rules) (search rules)
+    (search rules) c.self.inside.len c.self.inside.room c.draw.ensures c.in-Err.is c.self.invariant (search rules) c.self.view_is (search rules)
