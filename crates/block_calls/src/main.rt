@@ -1,5 +1,5 @@
-// Writes what the calls of `nitro` and `name` answer for each block of its standard input, a line a call. A block is preceded by its
-// length, in 4 bytes.
+//! Writes what the calls of `nitro` and `name` answer for each block of its standard input, a line a call. A block is preceded by its
+//! length, in 4 bytes.
 
 #![tactic(auto)]
 

@@ -1,4 +1,4 @@
-// How the program `block_calls` prints refusals and parts, and what the calls for one texture and one palette answer.
+//! How the program `block_calls` prints refusals and parts, and what the calls for one texture and one palette answer.
 
 #![tactic(auto)]
 
@@ -6,7 +6,7 @@ use errors::Refusal;
 use nitro::tex::{self, PaletteRecord, TextureRecord};
 use report::{hex, number, text, word};
 
-// Prints a refusal's number, and for a short block what is returned beside it.
+/// Prints a refusal's number, and for a short block what is returned beside it.
 pub fn refused(refusal: Refusal) {
     text(b" refused");
     number(refusal.number() as u64);
@@ -15,12 +15,12 @@ pub fn refused(refusal: Refusal) {
     }
 }
 
-// Prints an answer that is a number or a refusal.
+/// Prints an answer that is a number or a refusal.
 pub fn counted(answer: Result<usize, Refusal>) {
     answer.map_or_else(refused, |n| number(n as u64));
 }
 
-// Prints a part's length, and its bytes in hex.
+/// Prints a part's length, and its bytes in hex.
 pub fn part(bytes: &[u8]) {
     number(bytes.len() as u64);
     text(b" ");
@@ -52,7 +52,7 @@ fn palette(record: PaletteRecord) {
     part(&record.name.0);
 }
 
-// Prints the answers for the texture with this number: its record, and its first and second data.
+/// Prints the answers for the texture with this number: its record, and its first and second data.
 pub fn textures(block: &[u8], n: usize) {
     text(b"texture");
     number(n as u64);
@@ -64,7 +64,7 @@ pub fn textures(block: &[u8], n: usize) {
     text(b"\n");
 }
 
-// Prints the answer for the palette with this number.
+/// Prints the answer for the palette with this number.
 pub fn palettes(block: &[u8], n: usize) {
     text(b"palette");
     number(n as u64);

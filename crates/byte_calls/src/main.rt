@@ -1,4 +1,4 @@
-// Writes what the calls of the byte layer answer at their limits, a line a call.
+//! Writes what the calls of the byte layer answer at their limits, a line a call.
 
 #![tactic(auto)]
 

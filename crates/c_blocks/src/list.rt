@@ -1,4 +1,4 @@
-// The listing of a block.
+//! The listing of a block.
 ghost use Rattle.std.specs.Prelude.{◌≡◌};
 ghost use Rattle.util.specs.Outcome.{result as answered};
 ghost use Rattle.output.specs.Output.{write_outcome, write_output};
@@ -8,7 +8,7 @@ ghost use Rattle.told.specs.Told as Told;
 use listing::list;
 use told::tell_len;
 
-// Writes the listing of a block. A block that is refused is listed as one line.
+/// Writes the listing of a block. A block that is refused is listed as one line.
 #[unsafe(no_mangle)]
 pub extern "C" fn rasclanya_list(input: &[u8], out: &mut [u8], len: &mut usize) -> u32
     ensures value { result ≡ Told.code_of (write_outcome (answered (listing_text input.now)) out.old) }

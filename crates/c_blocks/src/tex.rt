@@ -1,4 +1,4 @@
-// Readings and records.
+//! Readings and records.
 ghost use Rattle.std.specs.Prelude.{◌≡◌, ◌++◌, ◌≤◌, length, drop};
 ghost use Rattle.errors.specs.Refusal.{result_outcome};
 ghost use Rattle.told.specs.Told as Told;
@@ -8,7 +8,7 @@ use name::Name;
 use nitro::tex;
 use told::{alpha_number, tell, tell_counts, wrap_number};
 
-// Reads the block: how many textures and palettes it has.
+/// Reads the block: how many textures and palettes it has.
 #[unsafe(no_mangle)]
 pub extern "C" fn rasclanya_read_tex(
     block: &[u8],
@@ -44,7 +44,7 @@ fn put_name(out: &mut [u8], name: Name)
     out[..16].copy_from_slice(&name.0);
 }
 
-// The record of texture n. Its name goes to the first 16 bytes of an output.
+/// The record of texture n. Its name goes to the first 16 bytes of an output.
 #[tactic(auto, using(crate::proofs::Named::named_room))]
 #[unsafe(no_mangle)]
 pub extern "C" fn rasclanya_texture(
@@ -76,7 +76,7 @@ pub extern "C" fn rasclanya_texture(
     tell(record, needed)
 }
 
-// The record of palette n. Its name goes to the first 16 bytes of an output.
+/// The record of palette n. Its name goes to the first 16 bytes of an output.
 #[tactic(auto, using(crate::proofs::Named::named_room))]
 #[unsafe(no_mangle)]
 pub extern "C" fn rasclanya_palette(

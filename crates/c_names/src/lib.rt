@@ -1,6 +1,6 @@
-// The calls for C that write a name as a text. A name is the first 16 bytes of a slice; bytes that it lacks are 0.
-//
-// A slice is a pointer and a length. A call returns 0, or 11 where the output is too short; then it leaves what it is lent as it was.
+//! The calls for C that write a name as a text. A name is the first 16 bytes of a slice; bytes that it lacks are 0.
+//!
+//! A slice is a pointer and a length. A call returns 0, or 11 where the output is too short; then it leaves what it is lent as it was.
 
 #![tactic(auto)]
 
@@ -23,7 +23,7 @@ fn name_of(bytes: &[u8]) -> Name
     Name(name)
 }
 
-// Writes the name as letters, digits and underscores.
+/// Writes the name as letters, digits and underscores.
 #[unsafe(no_mangle)]
 pub extern "C" fn rasclanya_print_safe(name: &[u8], out: &mut [u8], len: &mut usize) -> u32
     ensures value { result ≡ Told.code_of (write_outcome (answered (safe_text (Told.name_of name.now))) out.old) }
@@ -33,7 +33,7 @@ pub extern "C" fn rasclanya_print_safe(name: &[u8], out: &mut [u8], len: &mut us
     tell_len(name_of(name).print_safe(out), len)
 }
 
-// Writes the name in UTF-8.
+/// Writes the name in UTF-8.
 #[unsafe(no_mangle)]
 pub extern "C" fn rasclanya_display(name: &[u8], out: &mut [u8], len: &mut usize) -> u32
     ensures value { result ≡ Told.code_of (write_outcome (answered (display_text (Told.name_of name.now))) out.old) }

@@ -1,4 +1,4 @@
-// Fetching runs: a reading or a picture of a whole block, and how many answers were short.
+//! Fetching runs: a reading or a picture of a whole block, and how many answers were short.
 ghost use Rattle.std.specs.Prelude.{◌≡◌, ◌+◌, ◌*◌, ◌≤◌};
 ghost use Rattle.output.specs.Output.{write_outcome, write_output};
 ghost use Rattle.stream.specs.Fetch as Fetch;
@@ -8,7 +8,7 @@ use stream::fetch_picture::fetch_picture;
 use stream::fetch_tex::fetch_tex;
 use told::{choice_of, tell_count, tell_counts};
 
-// Reads the block as far as each answer needs.
+/// Reads the block as far as each answer needs.
 #[unsafe(no_mangle)]
 pub extern "C" fn rasclanya_fetch_tex(
     block: &[u8],
@@ -29,7 +29,7 @@ pub extern "C" fn rasclanya_fetch_tex(
     tell_counts(tex_run.answer, textures, palettes, needed)
 }
 
-// Makes the picture of texture n, reading the block as far as each answer needs. Where has_palette is 0 there is no palette.
+/// Makes the picture of texture n, reading the block as far as each answer needs. Where has_palette is 0 there is no palette.
 #[unsafe(no_mangle)]
 pub extern "C" fn rasclanya_fetch_picture(
     block: &[u8],

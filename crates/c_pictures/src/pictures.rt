@@ -1,4 +1,4 @@
-// Direct decoding, and pictures from a block. Where has_palette is 0 there is no palette.
+//! Direct decoding, and pictures from a block. Where has_palette is 0 there is no palette.
 ghost use Rattle.std.specs.Prelude.{◌≡◌};
 ghost use Rattle.output.specs.Output.{write_outcome, write_output};
 ghost use Rattle.told.specs.Told as Told;
@@ -8,7 +8,7 @@ use decode::picture::picture;
 use nds::texture_params::TextureParams;
 use told::{choice_of, tell_count, tell_len};
 
-// Decodes a texture by its word and data, with the palette at palette_off of a palette block.
+/// Decodes a texture by its word and data, with the palette at palette_off of a palette block.
 #[unsafe(no_mangle)]
 pub extern "C" fn rasclanya_decode_texture(
     word: u32,
@@ -34,7 +34,7 @@ pub extern "C" fn rasclanya_decode_texture(
     tell_len(decode_texture(texture, out), len)
 }
 
-// Reads the block and decodes its texture n, with a palette by its number.
+/// Reads the block and decodes its texture n, with a palette by its number.
 #[unsafe(no_mangle)]
 pub extern "C" fn rasclanya_picture(
     block: &[u8],

@@ -1,4 +1,4 @@
-// Rows for all textures and palettes.
+//! Rows for all textures and palettes.
 ghost use Rattle.std.specs.Prelude.{◌≡◌};
 ghost use Rattle.errors.specs.declared.Kind.TheVariants as kinds;
 ghost use Rattle.output.specs.Output.{write_outcome, write_output};
@@ -7,8 +7,8 @@ ghost use Rattle.told.specs.Told as Told;
 use errors::Kind;
 use told::tell_count;
 
-// A row of six numbers for each texture: where its name begins, its word, where its data begin and how long they are, and the same of its second
-// data. An empty part begins at 0.
+/// A row of six numbers for each texture: where its name begins, its word, where its data begin and how long they are, and the same of its second
+/// data. An empty part begins at 0.
 #[unsafe(no_mangle)]
 pub extern "C" fn rasclanya_textures(
     block: &[u8],
@@ -24,7 +24,7 @@ pub extern "C" fn rasclanya_textures(
     tell_count(rows::rows(block, Kind::Texture, rows), len, needed)
 }
 
-// A row of two numbers for each palette: where its name begins, and its offset in bytes.
+/// A row of two numbers for each palette: where its name begins, and its offset in bytes.
 #[unsafe(no_mangle)]
 pub extern "C" fn rasclanya_palettes(
     block: &[u8],

@@ -1,4 +1,4 @@
-// Parts of a block, by their places.
+//! Parts of a block, by their places.
 ghost use Rattle.std.specs.Prelude.{◌≡◌};
 ghost use Rattle.told.specs.Told as Told;
 
@@ -6,7 +6,7 @@ use layout::Place;
 use places::{locate, pal_place};
 use told::tell_part;
 
-// Where in the block the data of texture n are, or a block-compressed texture's first data, and how long it is. An empty part begins at 0.
+/// Where in the block the data of texture n are, or a block-compressed texture's first data, and how long it is. An empty part begins at 0.
 #[tactic(auto, using(crate::proofs::Places::data1_told, crate::proofs::Places::data1_refused))]
 #[unsafe(no_mangle)]
 pub extern "C" fn rasclanya_texture_data1(
@@ -25,7 +25,7 @@ pub extern "C" fn rasclanya_texture_data1(
     tell_part(place, pos, len, needed)
 }
 
-// Where in the block the second data of texture n are, and how long it is. An empty part begins at 0.
+/// Where in the block the second data of texture n are, and how long it is. An empty part begins at 0.
 #[tactic(auto, using(crate::proofs::Places::data2_told, crate::proofs::Places::data2_refused))]
 #[unsafe(no_mangle)]
 pub extern "C" fn rasclanya_texture_data2(
@@ -44,7 +44,7 @@ pub extern "C" fn rasclanya_texture_data2(
     tell_part(place, pos, len, needed)
 }
 
-// Where in the block the palette block is, and how long it is. An empty part begins at 0.
+/// Where in the block the palette block is, and how long it is. An empty part begins at 0.
 #[tactic(auto, using(crate::proofs::Places::pal_block_told, crate::proofs::Places::pal_block_refused))]
 #[unsafe(no_mangle)]
 pub extern "C" fn rasclanya_pal_block(

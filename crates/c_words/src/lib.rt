@@ -1,4 +1,4 @@
-// The calls for C that say what a texture word says. No call is declined.
+//! The calls for C that say what a texture word says. No call is declined.
 
 #![tactic(auto)]
 
@@ -11,7 +11,7 @@ ghost use Rattle.told.specs.Told as Told;
 use nds::texture_params::TextureParams;
 use told::{alpha_number, wrap_number};
 
-// In bytes.
+/// In bytes.
 #[unsafe(no_mangle)]
 pub extern "C" fn rasclanya_offset(word: u32) -> u32
     ensures { result ≡ Params.offset word }
@@ -47,7 +47,7 @@ pub extern "C" fn rasclanya_mirror_t(word: u32) -> bool
     TextureParams(word).mirror_t()
 }
 
-// In texels.
+/// In texels.
 #[unsafe(no_mangle)]
 pub extern "C" fn rasclanya_width(word: u32) -> u32
     ensures { result ≡ Params.width word }
@@ -55,7 +55,7 @@ pub extern "C" fn rasclanya_width(word: u32) -> u32
     TextureParams(word).width()
 }
 
-// In texels.
+/// In texels.
 #[unsafe(no_mangle)]
 pub extern "C" fn rasclanya_height(word: u32) -> u32
     ensures { result ≡ Params.height word }
@@ -84,7 +84,7 @@ pub extern "C" fn rasclanya_texcoord_transform_mode(word: u32) -> u8
     TextureParams(word).texcoord_transform_mode()
 }
 
-// 0 for clamp, 1 for repeat, 2 for mirror.
+/// 0 for clamp, 1 for repeat, 2 for mirror.
 #[unsafe(no_mangle)]
 pub extern "C" fn rasclanya_wrap_s(word: u32) -> u32
     ensures { result ≡ Told.wrap_number (wrap_of (Params.repeat_s word) (Params.mirror_s word)) }
@@ -92,7 +92,7 @@ pub extern "C" fn rasclanya_wrap_s(word: u32) -> u32
     wrap_number(TextureParams(word).wrap_s())
 }
 
-// 0 for clamp, 1 for repeat, 2 for mirror.
+/// 0 for clamp, 1 for repeat, 2 for mirror.
 #[unsafe(no_mangle)]
 pub extern "C" fn rasclanya_wrap_t(word: u32) -> u32
     ensures { result ≡ Told.wrap_number (wrap_of (Params.repeat_t word) (Params.mirror_t word)) }
@@ -100,7 +100,7 @@ pub extern "C" fn rasclanya_wrap_t(word: u32) -> u32
     wrap_number(TextureParams(word).wrap_t())
 }
 
-// 0 for opaque, 1 for transparent, 2 for translucent.
+/// 0 for opaque, 1 for transparent, 2 for translucent.
 #[unsafe(no_mangle)]
 pub extern "C" fn rasclanya_alpha_type(word: u32) -> u32
     ensures { result ≡ Told.alpha_number (Formats.alpha word) }
@@ -108,7 +108,7 @@ pub extern "C" fn rasclanya_alpha_type(word: u32) -> u32
     alpha_number(TextureParams(word).alpha_type())
 }
 
-// The length of the texture's data, of a block-compressed texture's first data, in bytes.
+/// The length of the texture's data, of a block-compressed texture's first data, in bytes.
 #[unsafe(no_mangle)]
 pub extern "C" fn rasclanya_byte_len(word: u32) -> usize
     ensures { result ≡ Formats.data_length word }
@@ -116,7 +116,7 @@ pub extern "C" fn rasclanya_byte_len(word: u32) -> usize
     TextureParams(word).byte_len()
 }
 
-// The length of a block-compressed texture's second data, in bytes. Other textures have none.
+/// The length of a block-compressed texture's second data, in bytes. Other textures have none.
 #[unsafe(no_mangle)]
 pub extern "C" fn rasclanya_byte_len2(word: u32) -> usize
     ensures { result ≡ Formats.second_length word }

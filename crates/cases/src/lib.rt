@@ -1,5 +1,5 @@
-// What the test programs ask of their input and their output: its cases with their numbers and the bytes that they name, the pattern that an
-// output is filled with, and a sum of bytes.
+//! What the test programs ask of their input and their output: its cases with their numbers and the bytes that they name, the pattern that an
+//! output is filled with, and a sum of bytes.
 
 #![tactic(auto)]
 
@@ -9,7 +9,7 @@ ghost use Rattle.cases.specs.Cases.{field_of, named_by, IsCase, CalledAtCases, p
 use cursor::part_at;
 use util::cur::peek;
 
-// The number of 4 bytes at pos, or 0 where there is none.
+/// The number of 4 bytes at pos, or 0 where there is none.
 #[tactic(auto, using(crate::proofs::Laws::field_got))]
 pub fn field(bytes: &[u8], pos: usize) -> u32
     ensures { result ≡ field_of pos bytes.now }
@@ -17,7 +17,7 @@ pub fn field(bytes: &[u8], pos: usize) -> u32
     peek::<u32>(bytes, pos).unwrap_or(0)
 }
 
-// A case: its numbers, and the input that has the bytes that it names.
+/// A case: its numbers, and the input that has the bytes that it names.
 #[derive(Clone, Copy)]
 pub struct Case<'a> {
     pub input: &'a [u8],
@@ -25,7 +25,7 @@ pub struct Case<'a> {
 }
 
 impl<'a> Case<'a> {
-    // The input's case n, counted from 0. The cases have len bytes each, and stand behind a number of 4 bytes, which counts them.
+    /// The input's case n, counted from 0. The cases have len bytes each, and stand behind a number of 4 bytes, which counts them.
     pub fn nth(input: &'a [u8], len: u32, n: u32) -> Case<'a>
         ensures { IsCase len n input.now result }
     {
@@ -33,14 +33,14 @@ impl<'a> Case<'a> {
         Case { input, numbers }
     }
 
-    // The case's number at `at`, or 0 where there is none.
+    /// The case's number at `at`, or 0 where there is none.
     pub fn field(self, at: usize) -> u32
         ensures { result ≡ field_of at self.entry.numbers.now }
     {
         field(self.numbers, at)
     }
 
-    // The bytes of the input that the case names: their position stands in the case at `at`, and their length behind it.
+    /// The bytes of the input that the case names: their position stands in the case at `at`, and their length behind it.
     pub fn named(self, at: u32) -> &'a [u8]
         ensures { result.now ≡ named_by at self.entry.numbers.now self.entry.input.now }
     {
@@ -50,7 +50,7 @@ impl<'a> Case<'a> {
     }
 }
 
-// Calls `show` at each case of the input, in order. The input begins with the number of cases, and a case has len bytes.
+/// Calls `show` at each case of the input, in order. The input begins with the number of cases, and a case has len bytes.
 pub fn each_case<F: FnMut(Case)>(input: &[u8], len: u32, mut show: F)
     requires { F.IsAlwaysCallable show }
     ensures { (last : F) × CalledAtCases (λ from case to. F.step from case tt to) len input.now (field_of 0 input.now) show last }
@@ -60,7 +60,7 @@ pub fn each_case<F: FnMut(Case)>(input: &[u8], len: u32, mut show: F)
     }
 }
 
-// Fills the output with bytes that tell their places, none of them 0.
+/// Fills the output with bytes that tell their places, none of them 0.
 pub fn fill(out: &mut [u8])
     ensures { (k : ℕ) → k < length out.old → get_or out.new k 0 ≡ pattern_at k }
 {
@@ -69,7 +69,7 @@ pub fn fill(out: &mut [u8])
     }
 }
 
-// An output of N bytes that is filled so.
+/// An output of N bytes that is filled so.
 pub fn filled<const N: usize>() -> [u8; N]
     ensures { (k : ℕ) → k < N → get_or result k 0 ≡ pattern_at k }
 {
@@ -78,26 +78,26 @@ pub fn filled<const N: usize>() -> [u8; N]
     out
 }
 
-// A sum of numbers. It depends on each number and on its place.
+/// A sum of numbers. It depends on each number and on its place.
 #[derive(Clone, Copy)]
 pub struct Sum(pub u64);
 
 impl Sum {
-    // The sum of no numbers.
+    /// The sum of no numbers.
     pub fn new() -> Sum
         ensures { result.0 ≡ 1 }
     {
         Sum(1)
     }
 
-    // Adds a number.
+    /// Adds a number.
     pub fn add(&mut self, x: u64)
         ensures { self.new.0 ≡ added self.old.0 x }
     {
         self.0 = (31 * (self.0 % 65521) + x % 65521) % 65521;
     }
 
-    // Adds each byte.
+    /// Adds each byte.
     pub fn add_all(&mut self, bytes: &[u8])
         ensures { self.new.0 ≡ added_all self.old.0 bytes.now }
     {

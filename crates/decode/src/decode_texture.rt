@@ -1,4 +1,4 @@
-// Decodes textures to RGBA, eight bits a channel.
+//! Decodes textures to RGBA, eight bits a channel.
 ghost use Rattle.std.specs.Prelude.{◌≡◌, ◌≤◌, ◌<◌, ◌^◌, length};
 ghost use Rattle.errors.specs.Refusal.{result_outcome};
 ghost use Rattle.nds.specs.Formats as Formats;
@@ -23,7 +23,7 @@ fn num_texels(params: TextureParams) -> usize
     (params.width() * params.height()) as usize
 }
 
-// A texture to decode: its word and data, the offset of the palette that was chosen for it, if one was, and the palette block.
+/// A texture to decode: its word and data, the offset of the palette that was chosen for it, if one was, and the palette block.
 #[derive(Clone, Copy)]
 pub struct Texture<'a> {
     pub params: TextureParams,
@@ -130,7 +130,7 @@ impl<'a> Texture<'a> {
     }
 }
 
-// Decodes a texture, with a palette where its format needs one, and returns the picture's length in bytes.
+/// Decodes a texture, with a palette where its format needs one, and returns the picture's length in bytes.
 #[tactic(auto, using(crate::proofs::Beyond::decodes))]
 pub fn decode_texture(texture: Texture, out: &mut [u8]) -> Result<usize, Refusal>
     ensures { Writes (Pictures.decoded (Pictures.sources texture.entry.params.0 texture.entry.data1.now texture.entry.data2.now texture.entry.palette texture.entry.pal_block.now)) out.old (result_outcome result) out.new }

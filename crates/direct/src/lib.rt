@@ -1,4 +1,4 @@
-// Direct colour textures: format 7.
+//! Direct colour textures: format 7.
 
 #![tactic(auto)]
 
@@ -99,7 +99,7 @@ fn decode_large_format7(out: &mut [u8], data1: &[u8])
     );
 }
 
-// Direct colour texture: 16-bit colours, no palette. Each two bytes of the data are a texel. The tables are worth their making from some thousand texels on.
+/// Direct colour texture: 16-bit colours, no palette. Each two bytes of the data are a texel. The tables are worth their making from some thousand texels on.
 pub fn decode_format7(out: &mut [u8], data1: &[u8])
     requires { 4 * (length data1.now / 2) ≤ length out.old }
     ensures { out.new ≡ Paint.painted (Texels.format7 data1.now) (length data1.now / 2) out.old }

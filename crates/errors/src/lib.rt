@@ -1,4 +1,4 @@
-// Why a call is declined: rows of document 01's table.
+//! Why a call is declined: rows of document 01's table.
 
 #![tactic(auto)]
 
@@ -8,7 +8,7 @@ ghost use Rattle.errors.specs.Display.{refusal_text};
 
 use std::fmt;
 
-// Which of a block's two name lists.
+/// Which of a block's two name lists.
 #[derive(Clone, Copy, Debug, PartialEq, Eq)]
 pub enum Kind {
     Texture,
@@ -17,30 +17,30 @@ pub enum Kind {
 
 #[derive(Clone, Copy, Debug, PartialEq, Eq)]
 pub enum Refusal {
-    // The block is too short. At this length the take that failed passes: what document 01 calls the want.
+    /// The block is too short. At this length the take that failed passes: what document 01 calls the want.
     Short(usize),
-    // The block does not begin with TEX0.
+    /// The block does not begin with TEX0.
     Stamp,
-    // A list's dummy is not 0.
+    /// A list's dummy is not 0.
     Dummy(Kind),
-    // A list's datum size is not its kind's.
+    /// A list's datum size is not its kind's.
     DatumSize(Kind),
-    // A texture's or palette's number is not below the count.
+    /// A texture's or palette's number is not below the count.
     Number(Kind),
-    // The texture's format needs a palette, and none was chosen.
+    /// The texture's format needs a palette, and none was chosen.
     NoPalette,
-    // The texture has format 0, which has no texels.
+    /// The texture has format 0, which has no texels.
     NoTexels,
-    // The output is shorter than what is to be written.
+    /// The output is shorter than what is to be written.
     Output,
-    // The texture's data are shorter than its word says.
+    /// The texture's data are shorter than its word says.
     ShortData,
-    // The input of a listing is longer than is read.
+    /// The input of a listing is longer than is read.
     LongInput,
 }
 
 impl Refusal {
-    // The number of the refusal's row in document 01's table.
+    /// The number of the refusal's row in document 01's table.
     pub fn number(self) -> usize
         ensures { result ≡ refusal_number self }
     {
@@ -61,7 +61,7 @@ impl Refusal {
         }
     }
 
-    // The needed length of a short block.
+    /// The needed length of a short block.
     pub fn needed(self) -> Option<usize>
         ensures { result ≡ refusal_needed self }
     {
@@ -71,7 +71,7 @@ impl Refusal {
         }
     }
 
-    // What is returned beside the number: the needed length of a short block, and else 0.
+    /// What is returned beside the number: the needed length of a short block, and else 0.
     pub fn returned(self) -> usize
         ensures { result ≡ refusal_returned self }
     {

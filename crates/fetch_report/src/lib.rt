@@ -1,4 +1,4 @@
-// The line that the program `stream_calls` prints of fetching.
+//! The line that the program `stream_calls` prints of fetching.
 
 #![tactic(auto)]
 
@@ -32,7 +32,7 @@ fn fetched_picture(block: &[u8], request: Request, out: &mut [u8]) {
     summed(sum.0);
 }
 
-// A line of fetching. The output is filled.
+/// A line of fetching. The output is filled.
 pub fn fetching(block: &[u8], request: Request) {
     fetched_tex(block);
     if let Some(out) = filled::<ROOM>().get_mut(..request.room) {

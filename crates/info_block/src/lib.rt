@@ -1,4 +1,4 @@
-// Name lists: apicula's src/nitro/info_block.rs. A list has c entries, each a datum and a name of 16 bytes.
+//! Name lists: apicula's src/nitro/info_block.rs. A list has c entries, each a datum and a name of 16 bytes.
 
 #![tactic(auto)]
 
@@ -33,7 +33,7 @@ fn read_whole(block: &[u8], kind: Kind, pos: u32, count: u8) -> Result<NameList<
     Ok(NameList { kind, count, bytes })
 }
 
-// Reads the list at pos: its count, then the whole list, then its dummy and its datum size.
+/// Reads the list at pos: its count, then the whole list, then its dummy and its datum size.
 #[tactic(auto, using(crate::proofs::Lists::reads))]
 pub fn read(block: &[u8], kind: Kind, pos: u32) -> Result<NameList<'_>, Refusal>
     ensures value { outcome_as listed result ≡ outcome_of (run (InfoBlock.name_list kind pos) block.now) answered }

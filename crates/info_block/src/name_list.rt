@@ -1,4 +1,4 @@
-// A name list that a block has, and its entries.
+//! A name list that a block has, and its entries.
 ghost use Rattle.std.specs.Prelude.{◌≡◌, ◌+◌, ◌*◌, ◌<◌, ◌≤◌, ◌^◌, length, take as first_bytes, drop};
 ghost use Rattle.info_block.specs.InfoBlock as InfoBlock;
 ghost use Rattle.info_block.specs.InfoBlock.{datum_bytes, list_length};
@@ -41,18 +41,18 @@ fn name_of(bytes: &[u8], pos: usize) -> Name
     Name(bytes[pos..pos + 16].try_into().unwrap())
 }
 
-// A list of count entries, whole.
+/// A list of count entries, whole.
 #[derive(Clone, Copy)]
 pub struct NameList<'a> {
     pub kind: Kind,
     pub count: usize,
     pub bytes: &'a [u8],
     pub ghost whole: { length bytes.now ≡ list_length kind count },
-    // No slice is longer.
+    /// No slice is longer.
     pub ghost fits: { list_length kind count < 2 ^ 63 },
 }
 
-// An entry of a list, by its number.
+/// An entry of a list, by its number.
 #[derive(Clone, Copy)]
 pub struct Entry<'a> {
     pub list: NameList<'a>,
@@ -64,7 +64,7 @@ impl<'a> NameList<'a> {
     ghost use Rattle.info_block.specs.InfoBlock.{list_at};
     ghost use Rattle.info_block.specs.Lists.{listed};
 
-    // The list of count entries at pos.
+    /// The list of count entries at pos.
     pub fn at(block: &'a [u8], kind: Kind, pos: usize, count: usize) -> NameList<'a>
         requires { pos + list_length kind count ≤ length block.now }
         ensures value { listed result ≡ list_at kind pos count block.now }
@@ -78,7 +78,7 @@ impl<'a> NameList<'a> {
         }
     }
 
-    // Entry n.
+    /// Entry n.
     pub fn entry(self, n: usize) -> Entry<'a>
         requires { n < self.count }
         ensures { (result.list ≡ self.entry) × (result.n ≡ n) }
@@ -91,7 +91,7 @@ impl Entry<'_> {
     ghost use Rattle.info_block.specs.InfoBlock.{datum_at, entry_name, entry_number};
     ghost use Rattle.info_block.specs.Lists.{listed};
 
-    // Where its name begins, from the list's start.
+    /// Where its name begins, from the list's start.
     pub fn name_pos(self) -> usize
         ensures { (result ≡ InfoBlock.name_at self.entry.list.kind self.entry.list.count self.entry.n) × (result < 2 ^ 63) }
     {
@@ -106,14 +106,14 @@ impl Entry<'_> {
         16 + 4 * self.list.count + datum_size(self.list.kind) * self.n
     }
 
-    // Its name.
+    /// Its name.
     pub fn name(self) -> Name
         ensures { result.0 ≡ entry_name self.entry.list.kind (listed self.entry.list) self.entry.n }
     {
         name_of(self.list.bytes, self.name_pos())
     }
 
-    // The number that the first bytes of its datum are, as many as the type has.
+    /// The number that the first bytes of its datum are, as many as the type has.
     pub fn number<T: Unsigned>(self) -> T
         ensures { T.number result ≡ entry_number self.entry.list.kind T.SIZE (listed self.entry.list) self.entry.n }
     {

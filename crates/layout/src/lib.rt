@@ -1,4 +1,4 @@
-// What a reading keeps of a block: its header, and how long its two lists are; and where, by these, data and lists stand.
+//! What a reading keeps of a block: its header, and how long its two lists are; and where, by these, data and lists stand.
 
 #![tactic(auto)]
 
@@ -19,13 +19,13 @@ pub struct Header {
     pub tex_block_off: u32,
     pub compressed1_block_off: u32,
     pub compressed2_block_off: u32,
-    // The palette block's length in units of 8 bytes.
+    /// The palette block's length in units of 8 bytes.
     pub pal_block_len_shr_3: u16,
     pub palette_off: u32,
     pub pal_block_off: u32,
 }
 
-// Where a block's lists and data are, and how long the lists are.
+/// Where a block's lists and data are, and how long the lists are.
 #[derive(Clone, Copy, Debug, PartialEq, Eq)]
 pub struct Layout {
     pub header: Header,
@@ -33,7 +33,7 @@ pub struct Layout {
     pub palettes: usize,
 }
 
-// A part of a block: len bytes at pos.
+/// A part of a block: len bytes at pos.
 #[derive(Clone, Copy, Debug, PartialEq, Eq)]
 pub struct Place {
     pub pos: usize,
@@ -41,14 +41,14 @@ pub struct Place {
 }
 
 impl Place {
-    // The part of the block at the place, or the empty part where the block does not have it.
+    /// The part of the block at the place, or the empty part where the block does not have it.
     pub fn part(self, block: &[u8]) -> &[u8]
         ensures { result.now ≡ Positions.part_at block.now self }
     {
         part_at(block, self.pos, self.len)
     }
 
-    // The place as it is told: one without bytes begins at 0.
+    /// The place as it is told: one without bytes begins at 0.
     pub fn told(self) -> Place
         ensures { result ≡ Positions.told self }
     {
@@ -60,7 +60,7 @@ impl Place {
 }
 
 impl Header {
-    // The palette block.
+    /// The palette block.
     pub fn pal_block(self) -> Place
         ensures value { result ≡ Positions.pal_place_at self }
         ensures upper_bound { (result.pos < 2 ^ 32) × (result.len < 2 ^ 19) }
@@ -71,7 +71,7 @@ impl Header {
         }
     }
 
-    // A texture's data, or a block-compressed texture's first data.
+    /// A texture's data, or a block-compressed texture's first data.
     #[tactic(auto, using(nds::proofs::Sizes::data_length_lt), unfolding(crate::specs::Positions::data_at))]
     pub fn data1(self, params: TextureParams) -> Place
         ensures value { result ≡ Positions.data1_at self params.0 }
@@ -88,7 +88,7 @@ impl Header {
         }
     }
 
-    // A block-compressed texture's second data. Other textures have none.
+    /// A block-compressed texture's second data. Other textures have none.
     #[tactic(auto, using(nds::proofs::Sizes::second_length_lt), unfolding(crate::specs::Positions::second_at))]
     pub fn data2(self, params: TextureParams) -> Place
         ensures value { result ≡ Positions.data2_at self params.0 }
@@ -101,7 +101,7 @@ impl Header {
         }
     }
 
-    // Where the list of the kind begins.
+    /// Where the list of the kind begins.
     pub fn list_pos(self, kind: Kind) -> usize
         ensures { (result ≡ Positions.list_pos kind self) × (result < 2 ^ 32) }
     {
@@ -113,7 +113,7 @@ impl Header {
 }
 
 impl Layout {
-    // The length of the list of the kind.
+    /// The length of the list of the kind.
     pub fn count_of(self, kind: Kind) -> usize
         ensures { result ≡ Positions.count_of kind self }
     {
@@ -124,14 +124,14 @@ impl Layout {
     }
 }
 
-// The word of a texture, by its entry.
+/// The word of a texture, by its entry.
 pub fn params_at(texture: Entry) -> TextureParams
     ensures { result.0 ≡ entry_number texture.entry.list.kind 4 (listed texture.entry.list) texture.entry.n }
 {
     TextureParams(texture.number())
 }
 
-// The offset of a palette, by its entry, in bytes.
+/// The offset of a palette, by its entry, in bytes.
 pub fn off_at(palette: Entry) -> u32
     ensures { result ≡ 8 * entry_number palette.entry.list.kind 2 (listed palette.entry.list) palette.entry.n }
 {

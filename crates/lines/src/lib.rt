@@ -1,4 +1,4 @@
-// The lines of a listing: a texture's and a palette's record as text, put into an output. The caller shows that there is room.
+//! The lines of a listing: a texture's and a palette's record as text, put into an output. The caller shows that there is room.
 
 #![tactic(auto)]
 
@@ -22,7 +22,7 @@ fn put_name(writer: &mut Writer<'_>, name: Name, end: &[u8])
     writer.put_field(&text[..len], end);
 }
 
-// The line of texture n.
+/// The line of texture n.
 #[tactic(auto, using(text::proofs::Puts::puts), unfolding(text::specs::Text::line, text::specs::Text::ascii, crate::specs::Lines::texture_line))]
 pub fn put_texture(writer: &mut Writer<'_>, n: usize, texture: TextureRecord)
     requires { HasRoom (Lines.texture_line n texture) writer.old }
@@ -39,7 +39,7 @@ pub fn put_texture(writer: &mut Writer<'_>, n: usize, texture: TextureRecord)
     writer.put_field(texture.alpha.word(), b"\n");
 }
 
-// The line of palette n.
+/// The line of palette n.
 #[tactic(auto, using(text::proofs::Puts::puts), unfolding(text::specs::Text::line, text::specs::Text::ascii, crate::specs::Lines::palette_line))]
 pub fn put_palette(writer: &mut Writer<'_>, n: usize, palette: PaletteRecord)
     requires { HasRoom (Lines.palette_line n palette) writer.old }

@@ -1,4 +1,4 @@
-// The listing program.
+//! The listing program.
 
 #![tactic(auto)]
 

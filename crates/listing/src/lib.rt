@@ -1,4 +1,4 @@
-// The listing of a TEX0 block: its textures and palettes as lines of text, or why it is refused.
+//! The listing of a TEX0 block: its textures and palettes as lines of text, or why it is refused.
 
 #![tactic(auto)]
 
@@ -23,10 +23,10 @@ use reading::tex::Tex;
 use refused::put_refused;
 use text::{Writer, write};
 
-// The longest input that is read, in bytes.
+/// The longest input that is read, in bytes.
 pub const MAX_INPUT: usize = 65536;
 
-// No listing is longer than this, in bytes: 255 textures and 255 palettes, with names of 16 bytes and the longest numbers and words.
+/// No listing is longer than this, in bytes: 255 textures and 255 palettes, with names of 16 bytes and the longest numbers and words.
 pub const MAX_LISTING: usize = 22211;
 
 // The line of texture or palette n.
@@ -103,8 +103,8 @@ fn put_listing(input: &[u8], out: &mut [u8]) -> usize
     writer.at
 }
 
-// Writes the listing of a block to an output that has room for every listing, and returns its length. A block that is refused is listed as one
-// line.
+/// Writes the listing of a block to an output that has room for every listing, and returns its length. A block that is refused is listed as one
+/// line.
 #[tactic(auto, using(text::proofs::Puts::whole, crate::proofs::Bounds::listing_fits))]
 pub fn list_whole(input: &[u8], out: &mut [u8; MAX_LISTING]) -> usize
     ensures value { Writes (answered (Listing.listing_text input.now)) out.old (answered result) out.new }
@@ -113,7 +113,7 @@ pub fn list_whole(input: &[u8], out: &mut [u8; MAX_LISTING]) -> usize
     put_listing(input, out)
 }
 
-// The same, to any output, which is not written where the listing is longer.
+/// The same, to any output, which is not written where the listing is longer.
 #[tactic(auto, using(text::proofs::Puts::whole, crate::proofs::Bounds::listing_fits))]
 pub fn list(input: &[u8], out: &mut [u8]) -> Result<usize, Refusal>
     ensures { Writes (answered (Listing.listing_text input.now)) out.old (result_outcome result) out.new }

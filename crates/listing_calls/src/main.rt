@@ -1,18 +1,18 @@
-// Writes what `listing::list` answers for each case of its standard input, and the text that it wrote to its output.
-//
-// A case is a line, and behind it the text. The line has the title; the answer, which is `ok` with the number of bytes written, or `no`
-// with the refusal's number and what is returned with it; and a sum of the whole output as the call left it. Each call gets an output filled
-// with a pattern, so the sum tells whether bytes behind the text kept their content. A call that is declined has no text, and the sum tells
-// whether the output is as it was.
-//
-// The input begins with the number of cases. A case is 5 numbers; those in pairs are the position and the length of bytes that follow the
-// cases. The numbers have 4 bytes.
-//
-// | at | number |
-// |---|---|
-// | 0, 4 | the title |
-// | 8, 12 | what is listed |
-// | 16 | the output's length, at most 22,400 |
+//! Writes what `listing::list` answers for each case of its standard input, and the text that it wrote to its output.
+//!
+//! A case is a line, and behind it the text. The line has the title; the answer, which is `ok` with the number of bytes written, or `no`
+//! with the refusal's number and what is returned with it; and a sum of the whole output as the call left it. Each call gets an output filled
+//! with a pattern, so the sum tells whether bytes behind the text kept their content. A call that is declined has no text, and the sum tells
+//! whether the output is as it was.
+//!
+//! The input begins with the number of cases. A case is 5 numbers; those in pairs are the position and the length of bytes that follow the
+//! cases. The numbers have 4 bytes.
+//!
+//! | at | number |
+//! |---|---|
+//! | 0, 4 | the title |
+//! | 8, 12 | what is listed |
+//! | 16 | the output's length, at most 22,400 |
 
 #![tactic(auto)]
 

@@ -1,4 +1,4 @@
-// The listing program: writes the listing of the TEX0 block on its standard input.
+//! The listing program: writes the listing of the TEX0 block on its standard input.
 
 #![tactic(auto)]
 
@@ -10,7 +10,7 @@ const STDIN_FILENO: i32 = 0;
 // The file descriptor of standard output.
 const STDOUT_FILENO: i32 = 1;
 
-// Runs the program. One byte more than may be read is enough to know that the input is too long.
+/// Runs the program. One byte more than may be read is enough to know that the input is too long.
 pub fn run() {
     let mut input = [0; MAX_INPUT + 1];
     let mut out = [0; MAX_LISTING];

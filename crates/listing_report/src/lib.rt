@@ -1,4 +1,4 @@
-// How the program `listing_calls` prints what the listing call answers, with a sum of the output and the text.
+//! How the program `listing_calls` prints what the listing call answers, with a sum of the output and the text.
 
 #![tactic(auto)]
 
@@ -20,7 +20,7 @@ fn listed(input: &[u8], out: &mut [u8]) {
     text(&out[..answer.unwrap_or(0)]);
 }
 
-// The same, where the output has len bytes, which are filled. A greater len than the most shows nothing.
+/// The same, where the output has len bytes, which are filled. A greater len than the most shows nothing.
 pub fn listed_to(input: &[u8], len: usize) {
     if let Some(out) = filled::<ROOM>().get_mut(..len) {
         listed(input, out);

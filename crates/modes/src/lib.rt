@@ -1,4 +1,4 @@
-// The colours of a block of format 5: opaque colours, mixes, and the colour of a texel by the block's mode and extra.
+//! The colours of a block of format 5: opaque colours, mixes, and the colour of a texel by the block's mode and extra.
 
 #![tactic(auto)]
 
@@ -53,7 +53,7 @@ fn mode_color(palette: Palette, first: u16, mode: u8, texel: u8) -> [u8; 4]
     }
 }
 
-// A texel of a block by the block's extra.
+/// A texel of a block by the block's extra.
 #[tactic(auto, using(crate::proofs::Modes::mode_same), unfolding(texels::specs::Texels::block_color))]
 pub fn block_color(palette: Palette, extra: u16, texel: u8) -> [u8; 4]
     requires { texel < 4 }

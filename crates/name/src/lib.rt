@@ -1,4 +1,4 @@
-// Names: 16 bytes, padded with zeros.
+//! Names: 16 bytes, padded with zeros.
 
 #![tactic(auto)]
 
@@ -55,7 +55,7 @@ impl Name {
         self.0.map(safe_byte)
     }
 
-    // Writes the name as letters, digits and underscores, of which there is at least one: where no byte stays, the first zero is written.
+    /// Writes the name as letters, digits and underscores, of which there is at least one: where no byte stays, the first zero is written.
     #[tactic(auto, using(crate::proofs::Texts::safe_taken))]
     pub fn print_safe(self, out: &mut [u8]) -> Result<usize, Refusal>
         ensures { Writes (answered (Text.safe_text self.0)) out.old (result_outcome result) out.new }
@@ -65,7 +65,7 @@ impl Name {
         write(&text[..len], out)
     }
 
-    // Writes the name in UTF-8, each byte as the character of that number, with a period for each byte below 20 hex.
+    /// Writes the name in UTF-8, each byte as the character of that number, with a period for each byte below 20 hex.
     #[tactic(auto, using(crate::proofs::Texts::each_shown), unfolding(crate::specs::Name::display_text))]
     pub fn display(self, out: &mut [u8]) -> Result<usize, Refusal>
         ensures { Writes (answered (Text.display_text self.0)) out.old (result_outcome result) out.new }

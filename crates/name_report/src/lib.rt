@@ -1,4 +1,4 @@
-// What the calls of `name` answer for a name, printed for the program `block_calls`.
+//! What the calls of `name` answer for a name, printed for the program `block_calls`.
 
 #![tactic(auto)]
 
@@ -21,7 +21,7 @@ fn written<const N: usize, F: FnOnce(&mut [u8]) -> Result<usize, Refusal>>(
     text(b"\n");
 }
 
-// Both texts of a name, in an output that holds any text and in one of three bytes.
+/// Both texts of a name, in an output that holds any text and in one of three bytes.
 pub fn texts(name: Name) {
     written(b"safe", [b'.'; 32], |out| name.print_safe(out));
     written(b"safe", [b'.'; 3], |out| name.print_safe(out));

@@ -1,4 +1,4 @@
-// The texture word and the texture formats: apicula's src/nds/texture_params.rs and texture_formats.rs, and the wrap words.
+//! The texture word and the texture formats: apicula's src/nds/texture_params.rs and texture_formats.rs, and the wrap words.
 
 #![tactic(auto)]
 

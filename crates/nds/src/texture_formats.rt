@@ -1,36 +1,36 @@
-// The texture formats and their facts.
+//! The texture formats and their facts.
 ghost use Rattle.std.specs.Prelude.{◌≡◌};
 ghost use Rattle.nds.specs.Formats as Formats;
 
-// A texture's format, in GBATEK's terms, and its number. The comments say what a texel stores.
+/// A texture's format, in GBATEK's terms, and its number. The comments say what a texel stores.
 #[derive(Clone, Copy, Debug, PartialEq, Eq)]
 pub enum TextureFormat {
-    // There is no texture.
+    /// There is no texture.
     NoTexture = 0,
-    // A colour number of 5 bits and an alpha of 3.
+    /// A colour number of 5 bits and an alpha of 3.
     A3I5 = 1,
-    // A colour number of 2 bits.
+    /// A colour number of 2 bits.
     Palette4 = 2,
-    // A colour number of 4 bits.
+    /// A colour number of 4 bits.
     Palette16 = 3,
-    // A colour number of 8 bits.
+    /// A colour number of 8 bits.
     Palette256 = 4,
-    // A colour number of 2 bits, among the colours of its block of 4 by 4 texels.
+    /// A colour number of 2 bits, among the colours of its block of 4 by 4 texels.
     Compressed = 5,
-    // A colour number of 3 bits and an alpha of 5.
+    /// A colour number of 3 bits and an alpha of 5.
     A5I3 = 6,
-    // A colour of 15 bits and an alpha of 1.
+    /// A colour of 15 bits and an alpha of 1.
     Direct = 7,
 }
 
-// An alpha kind, and the number that other languages are told for it.
+/// An alpha kind, and the number that other languages are told for it.
 #[derive(Clone, Copy, Debug, PartialEq, Eq)]
 pub enum Alpha {
-    // Every texel is solid.
+    /// Every texel is solid.
     Opaque = 0,
-    // A texel is solid or clear.
+    /// A texel is solid or clear.
     Transparent = 1,
-    // A texel has any alpha.
+    /// A texel has any alpha.
     Translucent = 2,
 }
 
@@ -49,16 +49,16 @@ impl Alpha {
 
 #[derive(Clone, Copy, Debug, PartialEq, Eq)]
 pub enum AlphaDesc {
-    // Whatever the word says.
+    /// Whatever the word says.
     Always(Alpha),
-    // Transparent where the word has colour 0 clear, else opaque.
+    /// Transparent where the word has colour 0 clear, else opaque.
     TransparentDependingOnParams,
 }
 
 #[derive(Clone, Copy, Debug, PartialEq, Eq)]
 pub struct FormatDesc {
     pub requires_palette: bool,
-    // Bits per texel.
+    /// Bits per texel.
     pub bpp: u8,
     pub alpha_desc: AlphaDesc,
 }
@@ -116,7 +116,7 @@ const DESCS: &[FormatDesc; 8] = &[
 ];
 
 impl TextureFormat {
-    // The format's number in a texture word.
+    /// The format's number in a texture word.
     pub fn number(self) -> u8
         ensures { result ≡ Formats.number_of self }
     {

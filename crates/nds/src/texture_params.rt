@@ -1,4 +1,4 @@
-// The texture word: a texture's size, format and addressing in 32 bits, and what they say of its data and alphas.
+//! The texture word: a texture's size, format and addressing in 32 bits, and what they say of its data and alphas.
 ghost use Rattle.std.specs.Prelude.{◌≡◌, ◌<◌};
 ghost use Rattle.nds.specs.Formats as Formats;
 ghost use Rattle.nds.specs.Params as Params;
@@ -20,7 +20,7 @@ fn bit(x: u32, k: u32) -> bool
 }
 
 impl TextureParams {
-    // In bytes.
+    /// In bytes.
     pub fn offset(self) -> u32
         ensures { result ≡ Params.offset self.0 }
     {
@@ -51,7 +51,7 @@ impl TextureParams {
         bit(self.0, 19)
     }
 
-    // In texels.
+    /// In texels.
     #[tactic(auto, using(crate::proofs::Sizes::size_fits), unfolding(crate::specs::Params::width))]
     pub fn width(self) -> u32
         ensures { result ≡ Params.width self.0 }
@@ -59,7 +59,7 @@ impl TextureParams {
         8 << bits(self.0, 20, 23)
     }
 
-    // In texels.
+    /// In texels.
     #[tactic(auto, using(crate::proofs::Sizes::size_fits), unfolding(crate::specs::Params::height))]
     pub fn height(self) -> u32
         ensures { result ≡ Params.height self.0 }
@@ -107,7 +107,7 @@ impl TextureParams {
         wrap_axis(self.repeat_t(), self.mirror_t())
     }
 
-    // The length of the texture's data, of a block-compressed texture's first data, in bytes.
+    /// The length of the texture's data, of a block-compressed texture's first data, in bytes.
     #[tactic(auto, using(crate::proofs::Sizes::areas), unfolding(crate::specs::Formats::data_length, crate::specs::Formats::desc))]
     pub fn byte_len(self) -> usize
         ensures { result ≡ Formats.data_length self.0 }
@@ -116,7 +116,7 @@ impl TextureParams {
         data_bits as usize / 8
     }
 
-    // The length of a block-compressed texture's second data, in bytes. Other textures have none.
+    /// The length of a block-compressed texture's second data, in bytes. Other textures have none.
     #[tactic(auto, unfolding(crate::specs::Formats::second_length))]
     pub fn byte_len2(self) -> usize
         ensures { result ≡ Formats.second_length self.0 }
@@ -128,7 +128,7 @@ impl TextureParams {
         }
     }
 
-    // Which alphas the texture's texels can have.
+    /// Which alphas the texture's texels can have.
     #[tactic(auto, unfolding(crate::specs::Formats::alpha, crate::specs::Formats::desc))]
     pub fn alpha_type(self) -> Alpha
         ensures { result ≡ Formats.alpha self.0 }

@@ -1,8 +1,8 @@
-// Wrap words: what a texture does beyond its edges, along one axis.
+//! Wrap words: what a texture does beyond its edges, along one axis.
 ghost use Rattle.std.specs.Prelude.{◌≡◌};
 ghost use Rattle.nds.specs.Wrap.{wrap_of, wrap_word};
 
-// A wrap word, and the number that other languages are told for it.
+/// A wrap word, and the number that other languages are told for it.
 #[derive(Clone, Copy, Debug, PartialEq, Eq)]
 pub enum Wrap {
     Clamp = 0,
@@ -23,7 +23,7 @@ impl Wrap {
     }
 }
 
-// The wrap word of an axis, by its repeat bit and its mirror bit.
+/// The wrap word of an axis, by its repeat bit and its mirror bit.
 pub fn wrap_axis(repeat: bool, mirror: bool) -> Wrap
     ensures { result ≡ wrap_of repeat mirror }
 {

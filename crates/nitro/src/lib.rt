@@ -1,4 +1,4 @@
-// Blocks: apicula's src/nitro/tex.rs, the reading of a TEX0 block, and its records and data parts.
+//! Blocks: apicula's src/nitro/tex.rs, the reading of a TEX0 block, and its records and data parts.
 
 #![tactic(auto)]
 

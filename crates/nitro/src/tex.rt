@@ -1,7 +1,7 @@
-// TEX0 blocks: what a reading found, as counts, records and parts of the block.
-//
-// Each call reads the block, and then picks what it was asked for. `texture_by` and `palette_by` are handed a block that was read, so that one
-// reading serves for many records.
+//! TEX0 blocks: what a reading found, as counts, records and parts of the block.
+//!
+//! Each call reads the block, and then picks what it was asked for. `texture_by` and `palette_by` are handed a block that was read, so that one
+//! reading serves for many records.
 ghost use Rattle.std.specs.Prelude.{◌≡◌, ◌*◌, ◌<◌};
 ghost use Rattle.util.specs.Outcome.{result as answered};
 ghost use Rattle.scripts.specs.Script.{run};
@@ -20,7 +20,7 @@ use nds::texture_params::TextureParams;
 use nds::wrap::Wrap;
 use reading::tex::Tex;
 
-// How many textures and palettes a block has.
+/// How many textures and palettes a block has.
 #[derive(Clone, Copy, Debug, PartialEq, Eq)]
 pub struct Counts {
     pub textures: usize,
@@ -39,7 +39,7 @@ pub struct TextureRecord {
 #[derive(Clone, Copy, Debug, PartialEq, Eq)]
 pub struct PaletteRecord {
     pub name: Name,
-    // In bytes, from the palette block's start.
+    /// In bytes, from the palette block's start.
     pub off: u32,
 }
 
@@ -56,14 +56,14 @@ fn texture_record(name: Name, params: TextureParams) -> TextureRecord
     }
 }
 
-// What stands for the record of a texture that a block does not have: a name of zeros, and the word 0.
+/// What stands for the record of a texture that a block does not have: a name of zeros, and the word 0.
 pub fn no_texture() -> TextureRecord
     ensures { result ≡ Calls.no_texture }
 {
     texture_record(Name([0; 16]), TextureParams(0))
 }
 
-// What stands for the record of a palette that a block does not have: a name of zeros, and the offset 0.
+/// What stands for the record of a palette that a block does not have: a name of zeros, and the offset 0.
 pub fn no_palette() -> PaletteRecord
     ensures { result ≡ Calls.no_palette }
 {
@@ -73,7 +73,7 @@ pub fn no_palette() -> PaletteRecord
     }
 }
 
-// Reads the block: how many textures and palettes it has.
+/// Reads the block: how many textures and palettes it has.
 #[tactic(auto, using(crate::proofs::Answers::answers))]
 pub fn read_tex(block: &[u8]) -> Result<Counts, Refusal>
     ensures { result_outcome result ≡ Calls.reading_of (run reading block.now) }
@@ -92,7 +92,7 @@ fn texture_at(texture: Entry) -> TextureRecord
     texture_record(texture.name(), params_at(texture))
 }
 
-// The record of texture n of a block that was read.
+/// The record of texture n of a block that was read.
 #[tactic(auto, using(crate::proofs::Answers::answers))]
 pub fn texture_by(tex: Tex, n: usize) -> TextureRecord
     requires { n < tex.layout.textures }
@@ -101,7 +101,7 @@ pub fn texture_by(tex: Tex, n: usize) -> TextureRecord
     texture_at(tex.list(Kind::Texture).entry(n))
 }
 
-// The record of texture n.
+/// The record of texture n.
 #[tactic(auto, using(crate::proofs::Answers::answers))]
 pub fn texture(block: &[u8], n: usize) -> Result<TextureRecord, Refusal>
     ensures { result_outcome result ≡ Calls.texture_of n (run reading block.now) }
@@ -119,7 +119,7 @@ fn palette_at(palette: Entry) -> PaletteRecord
     }
 }
 
-// The record of palette n of a block that was read.
+/// The record of palette n of a block that was read.
 #[tactic(auto, using(crate::proofs::Answers::answers))]
 pub fn palette_by(tex: Tex, n: usize) -> PaletteRecord
     requires { n < tex.layout.palettes }
@@ -128,7 +128,7 @@ pub fn palette_by(tex: Tex, n: usize) -> PaletteRecord
     palette_at(tex.list(Kind::Palette).entry(n))
 }
 
-// The record of palette n.
+/// The record of palette n.
 #[tactic(auto, using(crate::proofs::Answers::answers))]
 pub fn palette(block: &[u8], n: usize) -> Result<PaletteRecord, Refusal>
     ensures { result_outcome result ≡ Calls.palette_of n (run reading block.now) }
@@ -146,7 +146,7 @@ fn data1_found(block: &[u8], n: usize) -> Result<&[u8], Refusal>
     Ok(tex.layout.header.data1(params).part(block))
 }
 
-// The data of texture n, or the first data of a block-compressed texture.
+/// The data of texture n, or the first data of a block-compressed texture.
 #[tactic(auto, unfolding(crate::specs::Calls::data1_of))]
 pub fn texture_data1(block: &[u8], n: usize) -> &[u8]
     ensures { result.now ≡ Calls.data1_of n (run reading block.now) }
@@ -164,7 +164,7 @@ fn data2_found(block: &[u8], n: usize) -> Result<&[u8], Refusal>
     Ok(tex.layout.header.data2(params).part(block))
 }
 
-// The second data of texture n. Only a block-compressed texture has any.
+/// The second data of texture n. Only a block-compressed texture has any.
 #[tactic(auto, unfolding(crate::specs::Calls::data2_of))]
 pub fn texture_data2(block: &[u8], n: usize) -> &[u8]
     ensures { result.now ≡ Calls.data2_of n (run reading block.now) }
@@ -172,7 +172,7 @@ pub fn texture_data2(block: &[u8], n: usize) -> &[u8]
     data2_found(block, n).unwrap_or(&[])
 }
 
-// The palette block, which all palettes share.
+/// The palette block, which all palettes share.
 #[tactic(auto, using(crate::proofs::Answers::answers))]
 pub fn pal_block(block: &[u8]) -> &[u8]
     ensures { result.now ≡ Calls.pal_block_of (run reading block.now) }

@@ -1,4 +1,4 @@
-// One texel of each format, by the data and the texel's place.
+//! One texel of each format, by the data and the texel's place.
 
 #![tactic(auto)]
 
@@ -11,7 +11,7 @@ use modes::block_color;
 use texels::{Colors, Level, Palette, a3_to_a5, direct, index_at, rgb555a5};
 use util::unsigned::Unsigned;
 
-// Texel n of format 1.
+/// Texel n of format 1.
 #[tactic(auto, unfolding(texels::specs::Texels::format1))]
 pub fn texel1(data1: &[u8], palette: Palette, n: usize) -> [u8; 4]
     requires { n < length data1.now }
@@ -21,7 +21,7 @@ pub fn texel1(data1: &[u8], palette: Palette, n: usize) -> [u8; 4]
     rgb555a5(palette.color(u16::from(x & 31)), a3_to_a5(x >> 5))
 }
 
-// Texel n of formats 2 to 4, where a texel has 1 to 8 bits.
+/// Texel n of formats 2 to 4, where a texel has 1 to 8 bits.
 #[tactic(auto, unfolding(texels::specs::Texels::formats2to4))]
 pub fn texel2to4(data1: &[u8], bits: usize, colors: Colors, n: usize) -> [u8; 4]
     requires { Index.IndexThere bits n (length data1.now) }
@@ -30,7 +30,7 @@ pub fn texel2to4(data1: &[u8], bits: usize, colors: Colors, n: usize) -> [u8; 4]
     colors.texel(index_at(data1, bits, n))
 }
 
-// Texel n of format 6.
+/// Texel n of format 6.
 #[tactic(auto, unfolding(texels::specs::Texels::format6))]
 pub fn texel6(data1: &[u8], palette: Palette, n: usize) -> [u8; 4]
     requires { n < length data1.now }
@@ -40,7 +40,7 @@ pub fn texel6(data1: &[u8], palette: Palette, n: usize) -> [u8; 4]
     rgb555a5(palette.color(u16::from(x & 7)), Level { bits: x >> 3 })
 }
 
-// Texel n of format 7.
+/// Texel n of format 7.
 #[tactic(auto, unfolding(texels::specs::Texels::format7))]
 pub fn texel7(data1: &[u8], n: usize) -> [u8; 4]
     requires { 2 * n + 2 ≤ length data1.now }
@@ -49,7 +49,7 @@ pub fn texel7(data1: &[u8], n: usize) -> [u8; 4]
     direct(u16::view(data1, 2 * n))
 }
 
-// The texel of format 5 in column x and row y.
+/// The texel of format 5 in column x and row y.
 #[tactic(auto, unfolding(texels::specs::Texels::format5))]
 pub fn texel5(
     data1: &[u8],

@@ -1,4 +1,4 @@
-// Texels written to an output: formats 1 to 4 and 6.
+//! Texels written to an output: formats 1 to 4 and 6.
 
 #![tactic(auto)]
 
@@ -11,7 +11,7 @@ ghost use Rattle.paint.specs.Paint as Paint;
 use std::array;
 use texels::{Colors, Level, Palette, a3_to_a5, extend_5bit_to_8bit, index_at};
 
-// Writes texel n of a picture.
+/// Writes texel n of a picture.
 #[tactic(auto, using(texels::proofs::Texels::put_four))]
 pub fn put_pixel(out: &mut [u8], n: usize, pixel: [u8; 4])
     requires { 4 * n + 4 ≤ length out.old }
@@ -24,7 +24,7 @@ pub fn put_pixel(out: &mut [u8], n: usize, pixel: [u8; 4])
     out[at + 3] = pixel[3];
 }
 
-// Writes the first count texels, in order, each as the closure makes it by its number.
+/// Writes the first count texels, in order, each as the closure makes it by its number.
 #[tactic(auto, using(crate::proofs::Quads::made_none, crate::proofs::Quads::made_more, crate::proofs::Quads::made_all))]
 pub fn put_texels<F: Fn(usize) -> [u8; 4]>(out: &mut [u8], count: usize, texel: F)
     requires room { 4 * count ≤ length out.old }
@@ -86,7 +86,7 @@ fn decode_by_table<const BITS: usize, const N: usize>(
     put_indexed::<BITS>(out, num_texels, data1, &table);
 }
 
-// 4-colour palette texture.
+/// 4-colour palette texture.
 pub fn decode_format2(out: &mut [u8], num_texels: usize, data1: &[u8], colors: Colors)
     requires { Paint.IndexedFits 2 num_texels (length data1.now) (length out.old) }
     ensures { out.new ≡ Paint.painted (Texels.formats2to4 2 colors.entry.clear0 data1.now colors.entry.palette.block.now colors.entry.palette.off) num_texels out.old }
@@ -94,7 +94,7 @@ pub fn decode_format2(out: &mut [u8], num_texels: usize, data1: &[u8], colors: C
     decode_by_table::<2, 4>(out, num_texels, data1, colors)
 }
 
-// 16-colour palette texture.
+/// 16-colour palette texture.
 pub fn decode_format3(out: &mut [u8], num_texels: usize, data1: &[u8], colors: Colors)
     requires { Paint.IndexedFits 4 num_texels (length data1.now) (length out.old) }
     ensures { out.new ≡ Paint.painted (Texels.formats2to4 4 colors.entry.clear0 data1.now colors.entry.palette.block.now colors.entry.palette.off) num_texels out.old }
@@ -151,7 +151,7 @@ fn with_alpha(pixel: [u8; 4], a5: Level) -> [u8; 4]
     [red, green, blue, extend_5bit_to_8bit(a5)]
 }
 
-// A3I5 translucent texture: 3-bit alpha, 5-bit colour index. Each byte of the data is a texel.
+/// A3I5 translucent texture: 3-bit alpha, 5-bit colour index. Each byte of the data is a texel.
 #[tactic(auto, using(crate::proofs::Tables::a3i5_texel), unfolding(texels::specs::Texels::format1))]
 pub fn decode_format1(out: &mut [u8], data1: &[u8], palette: Palette)
     requires { 4 * length data1.now ≤ length out.old }
@@ -170,7 +170,7 @@ pub fn decode_format1(out: &mut [u8], data1: &[u8], palette: Palette)
     )
 }
 
-// 256-colour palette texture. Each byte of the data is a texel.
+/// 256-colour palette texture. Each byte of the data is a texel.
 #[tactic(auto, using(texels::proofs::Texels::texel_byte), unfolding(texels::specs::Texels::formats2to4))]
 pub fn decode_format4(out: &mut [u8], data1: &[u8], colors: Colors)
     requires { 4 * length data1.now ≤ length out.old }
@@ -185,7 +185,7 @@ pub fn decode_format4(out: &mut [u8], data1: &[u8], colors: Colors)
     )
 }
 
-// A5I3 translucent texture: 5-bit alpha, 3-bit colour index. Each byte of the data is a texel.
+/// A5I3 translucent texture: 5-bit alpha, 3-bit colour index. Each byte of the data is a texel.
 #[tactic(auto, using(crate::proofs::Tables::a5i3_texel), unfolding(texels::specs::Texels::format6))]
 pub fn decode_format6(out: &mut [u8], data1: &[u8], palette: Palette)
     requires { 4 * length data1.now ≤ length out.old }

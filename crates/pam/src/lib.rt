@@ -1,4 +1,4 @@
-// A picture of a TEX0 block as a PAM image: Netpbm's format for pictures with alpha, which stock viewers and converters read.
+//! A picture of a TEX0 block as a PAM image: Netpbm's format for pictures with alpha, which stock viewers and converters read.
 
 #![tactic(auto)]
 
@@ -68,7 +68,7 @@ fn image_at(block: &[u8], places: Places, out: &mut [u8]) -> Result<usize, Refus
     Ok(writer.at + len)
 }
 
-// Writes the picture of texture n with the chosen palette to the output as a PAM image, and returns the image's length in bytes.
+/// Writes the picture of texture n with the chosen palette to the output as a PAM image, and returns the image's length in bytes.
 #[tactic(auto, using(crate::proofs::Images::located), unfolding(output::specs::Output::write_outcome, output::specs::Output::write_output))]
 pub fn pam(block: &[u8], n: usize, choice: Option<usize>, out: &mut [u8]) -> Result<usize, Refusal>
     ensures { Writes (Pam.pam_of n choice (run read_tex block.now)) out.old (result_outcome result) out.new }

@@ -1,21 +1,21 @@
-// Writes what the picture calls of `decode` answer for each case of its standard input, a line a case: the case's title, and then `ok`
-// with the picture's length, or `refused` with the refusal's number and what is returned with it; a checksum of the whole output; and of
-// a picture some texels.
-//
-// The input begins with the number of cases. A case is 13 numbers; those in pairs are the position and the length of bytes that follow
-// the cases. The numbers have 4 bytes.
-//
-// | at | number |
-// |---|---|
-// | 0 | 0: texels are decoded directly. Else: a picture from a block |
-// | 4, 8 | the title |
-// | 12 | the texture word, or the texture's number |
-// | 16 | 0: no palette. Else: one |
-// | 20 | its offset, or its number |
-// | 24 | the output's length, at most 65,536 |
-// | 28, 32 | first data, or the block |
-// | 36, 40 | second data |
-// | 44, 48 | the palette block |
+//! Writes what the picture calls of `decode` answer for each case of its standard input, a line a case: the case's title, and then `ok`
+//! with the picture's length, or `refused` with the refusal's number and what is returned with it; a checksum of the whole output; and of
+//! a picture some texels.
+//!
+//! The input begins with the number of cases. A case is 13 numbers; those in pairs are the position and the length of bytes that follow
+//! the cases. The numbers have 4 bytes.
+//!
+//! | at | number |
+//! |---|---|
+//! | 0 | 0: texels are decoded directly. Else: a picture from a block |
+//! | 4, 8 | the title |
+//! | 12 | the texture word, or the texture's number |
+//! | 16 | 0: no palette. Else: one |
+//! | 20 | its offset, or its number |
+//! | 24 | the output's length, at most 65,536 |
+//! | 28, 32 | first data, or the block |
+//! | 36, 40 | second data |
+//! | 44, 48 | the palette block |
 
 #![tactic(auto)]
 

@@ -1,4 +1,4 @@
-// How the program `picture_calls` prints the answer of a picture call: the answer, a checksum of the output, and some texels.
+//! How the program `picture_calls` prints the answer of a picture call: the answer, a checksum of the output, and some texels.
 
 #![tactic(auto)]
 
@@ -23,7 +23,7 @@ fn texel(out: &[u8], pos: usize) {
     }
 }
 
-// Prints an answer, the output's checksum, and of a picture some texels.
+/// Prints an answer, the output's checksum, and of a picture some texels.
 pub fn written(answer: Result<usize, Refusal>, out: &[u8]) {
     match answer {
         Ok(n) => {

@@ -1,4 +1,4 @@
-// Where in a block all that a picture is made from is.
+//! Where in a block all that a picture is made from is.
 
 #![tactic(auto)]
 
@@ -15,18 +15,18 @@ use layout::{Header, off_at, params_at};
 use nds::texture_params::TextureParams;
 use reading::tex::Tex;
 
-// What a picture is made from, and where in the block it is.
+/// What a picture is made from, and where in the block it is.
 #[derive(Clone, Copy, Debug, PartialEq, Eq)]
 pub struct Places {
     pub params: TextureParams,
     pub data1: Place,
     pub data2: Place,
-    // The offset of the palette that the picture has, in bytes, from the palette block's start.
+    /// The offset of the palette that the picture has, in bytes, from the palette block's start.
     pub palette: Option<u32>,
     pub pal_block: Place,
 }
 
-// Where the palette block is.
+/// Where the palette block is.
 #[tactic(auto, using(crate::proofs::Sources::finds))]
 pub fn pal_place(block: &[u8]) -> Result<Place, Refusal>
     ensures { result_outcome result ≡ Sources.pal_place_of block.now (run read_tex block.now) }
@@ -46,7 +46,7 @@ fn chosen_off(tex: Tex, choice: Option<usize>) -> Result<Option<u32>, Refusal>
     Ok(Some(off_at(tex.entry(Kind::Palette, k)?)))
 }
 
-// The places of a texture by its word, beside a palette's offset.
+/// The places of a texture by its word, beside a palette's offset.
 pub fn places_of(header: Header, params: TextureParams, palette: Option<u32>) -> Places
     ensures { result ≡ Sources.places_at header params.0 palette }
 {
@@ -59,7 +59,7 @@ pub fn places_of(header: Header, params: TextureParams, palette: Option<u32>) ->
     }
 }
 
-// Where in a block that was read all that a picture of texture n with the chosen palette is made from is: one reading serves for many pictures.
+/// Where in a block that was read all that a picture of texture n with the chosen palette is made from is: one reading serves for many pictures.
 #[tactic(auto, using(crate::proofs::Sources::finds), unfolding(crate::specs::ByLayout::places_by))]
 pub fn locate_by(tex: Tex, n: usize, choice: Option<usize>) -> Result<Places, Refusal>
     ensures { result_outcome result ≡ Sources.places_of n choice tex.entry.block.now (run read_tex tex.entry.block.now) }
@@ -69,7 +69,7 @@ pub fn locate_by(tex: Tex, n: usize, choice: Option<usize>) -> Result<Places, Re
     Ok(places_of(tex.layout.header, params, palette))
 }
 
-// Where in the block all that a picture of texture n with the chosen palette is made from is.
+/// Where in the block all that a picture of texture n with the chosen palette is made from is.
 #[tactic(auto, using(crate::proofs::Sources::finds))]
 pub fn locate(block: &[u8], n: usize, choice: Option<usize>) -> Result<Places, Refusal>
     ensures { result_outcome result ≡ Sources.places_of n choice block.now (run read_tex block.now) }

@@ -1,6 +1,6 @@
-// The reading of a TEX0 block: its header, its two lists, and whether all of their data are there.
-//
-// A reading keeps nothing but positions and counts.
+//! The reading of a TEX0 block: its header, its two lists, and whether all of their data are there.
+//!
+//! A reading keeps nothing but positions and counts.
 
 #![tactic(auto)]
 
@@ -128,7 +128,7 @@ fn read_palettes(block: &[u8], header: Header) -> Result<usize, Refusal>
     Ok(list.count)
 }
 
-// Reads the block: header, palette block, textures, palettes.
+/// Reads the block: header, palette block, textures, palettes.
 #[tactic(auto, using(crate::proofs::Readings::lays))]
 pub fn lay_out(block: &[u8]) -> Result<Layout, Refusal>
     ensures { result_outcome result ≡ Layouts.layout_answer block.now (run Tex.read_tex block.now) }

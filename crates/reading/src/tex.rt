@@ -1,4 +1,4 @@
-// Blocks that were read.
+//! Blocks that were read.
 ghost use Rattle.std.specs.Prelude.{◌≡◌};
 ghost use Rattle.reading.specs.Layouts.{LaidOut};
 
@@ -7,7 +7,7 @@ use errors::{Kind, Refusal};
 use info_block::name_list::{Entry, NameList};
 use layout::Layout;
 
-// A block, with what its reading found.
+/// A block, with what its reading found.
 #[derive(Clone, Copy)]
 pub struct Tex<'a> {
     pub block: &'a [u8],
@@ -26,7 +26,7 @@ impl<'a> Tex<'a> {
     ghost use Rattle.reading.specs.Layouts.{layout_answer};
     ghost use Rattle.reading.specs.Blocks.{layout_in, list_of, entry_at};
 
-    // Reads a block.
+    /// Reads a block.
     pub fn read(block: &'a [u8]) -> Result<Tex<'a>, Refusal>
         ensures value { outcome_as layout_in result ≡ layout_answer block.now (run read_tex block.now) }
         ensures of_block { IfOk result (λ tex. tex.block ≡ block.entry) }
@@ -35,7 +35,7 @@ impl<'a> Tex<'a> {
         Ok(Tex { block, layout })
     }
 
-    // Its list of the kind.
+    /// Its list of the kind.
     #[tactic(auto, using(crate::proofs::Blocks::list_within))]
     pub fn list(self, kind: Kind) -> NameList<'a>
         ensures value { listed result ≡ list_at kind (Positions.list_pos kind self.entry.layout.header) (Positions.count_of kind self.entry.layout) self.entry.block.now }
@@ -50,7 +50,7 @@ impl<'a> Tex<'a> {
         )
     }
 
-    // Entry n of its list of the kind, where it has one.
+    /// Entry n of its list of the kind, where it has one.
     #[tactic(auto, unfolding(crate::specs::Blocks::entry_at))]
     pub fn entry(self, kind: Kind, n: usize) -> Result<Entry<'a>, Refusal>
         ensures value { outcome_as list_of result ≡ entry_at kind n self.entry.block.now self.entry.layout }

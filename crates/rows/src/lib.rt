@@ -1,4 +1,4 @@
-// Rows of numbers that tell of all textures, or of all palettes, of a block at once.
+//! Rows of numbers that tell of all textures, or of all palettes, of a block at once.
 
 #![tactic(auto)]
 
@@ -107,9 +107,9 @@ fn rows_by(tex: Tex, kind: Kind, out: &mut [usize]) -> Result<usize, Refusal>
     Ok(len)
 }
 
-// Writes a row of numbers for each texture, or for each palette, and answers with how many numbers that are. All are of one reading. A
-// texture has six: where its name begins, its word, where its data begin and how long they are, and the same of its second data. A palette
-// has two: where its name begins, and its offset in bytes.
+/// Writes a row of numbers for each texture, or for each palette, and answers with how many numbers that are. All are of one reading. A
+/// texture has six: where its name begins, its word, where its data begin and how long they are, and the same of its second data. A palette
+/// has two: where its name begins, and its offset in bytes.
 #[tactic(auto, using(crate::proofs::Entries::makes_rows), unfolding(output::specs::Output::write_outcome, output::specs::Output::write_output))]
 pub fn rows(block: &[u8], kind: Kind, out: &mut [usize]) -> Result<usize, Refusal>
     ensures { Writes (Rows.rows_of kind block.now (run read_tex block.now)) out.old (result_outcome result) out.new }

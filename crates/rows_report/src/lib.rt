@@ -1,4 +1,4 @@
-// What the call for all rows of a block answers, printed for the program `block_calls`.
+//! What the call for all rows of a block answers, printed for the program `block_calls`.
 
 #![tactic(auto)]
 
@@ -15,7 +15,7 @@ fn rows<const N: usize>(block: &[u8], kind: Kind, mut out: [usize; N]) {
     text(b"\n");
 }
 
-// The rows of both kinds, in outputs that are long enough for three textures and two palettes, and in short ones.
+/// The rows of both kinds, in outputs that are long enough for three textures and two palettes, and in short ones.
 pub fn all_rows(block: &[u8]) {
     rows(block, Kind::Texture, [7; 19]);
     rows(block, Kind::Texture, [7; 5]);

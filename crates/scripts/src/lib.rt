@@ -1,4 +1,4 @@
-// The take by which a script reads: the bytes that a block holds at a position, or what length it needs.
+//! The take by which a script reads: the bytes that a block holds at a position, or what length it needs.
 
 #![tactic(auto)]
 
@@ -10,7 +10,7 @@ ghost use Rattle.scripts.specs.Script.{bytes_at, run, outcome_of};
 use errors::Refusal;
 use util::cur::{Needed, take_at};
 
-// The n bytes at pos, where block holds them.
+/// The n bytes at pos, where block holds them.
 #[tactic(auto, using(crate::proofs::Runs::take_passed, crate::proofs::Runs::take_missed, crate::proofs::Runs::take_fits))]
 pub fn take(block: &[u8], pos: usize, n: usize) -> Result<&[u8], Refusal>
     requires { pos + n < 2 ^ 64 }

@@ -1,4 +1,4 @@
-// The picture program.
+//! The picture program.
 
 #![tactic(auto)]
 

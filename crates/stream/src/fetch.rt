@@ -1,4 +1,4 @@
-// Fetching: a call over a whole block, lent no more of it than an answer before has asked for.
+//! Fetching: a call over a whole block, lent no more of it than an answer before has asked for.
 ghost use Rattle.std.specs.Prelude.{◌≡◌, List, ℕ};
 ghost use Rattle.errors.specs.Refusal.{result_outcome};
 ghost use Rattle.reading.specs.Tex.{read_tex};
@@ -9,9 +9,9 @@ use errors::Refusal;
 
 #[derive(Clone, Copy, Debug, PartialEq, Eq)]
 pub struct Fetched<T> {
-    // The last answer.
+    /// The last answer.
     pub answer: Result<T, Refusal>,
-    // How many answers were short, the last included.
+    /// How many answers were short, the last included.
     pub short_answers: usize,
 }
 

@@ -1,4 +1,4 @@
-// Fetching a picture.
+//! Fetching a picture.
 ghost use Rattle.std.specs.Prelude.{List, ℕ};
 ghost use Rattle.errors.specs.Refusal.{result_outcome};
 ghost use Rattle.stream.specs.Fetch as Fetch;
@@ -26,8 +26,8 @@ impl Attempt for Picture {
     }
 }
 
-// Makes a picture from the block's first 0 bytes, then from as many as the last answer needed, until an answer is not short or needs more
-// than the block has. Each attempt gets the output as the one before left it.
+/// Makes a picture from the block's first 0 bytes, then from as many as the last answer needed, until an answer is not short or needs more
+/// than the block has. Each attempt gets the output as the one before left it.
 pub fn fetch_picture(
     block: &[u8],
     n: usize,

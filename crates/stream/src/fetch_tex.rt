@@ -1,4 +1,4 @@
-// Fetching a reading.
+//! Fetching a reading.
 ghost use Rattle.std.specs.Prelude.{List, ℕ};
 ghost use Rattle.errors.specs.Refusal.{result_outcome};
 ghost use Rattle.scripts.specs.Script.{run};
@@ -26,7 +26,7 @@ impl Attempt for Reading {
     }
 }
 
-// Reads the block's first 0 bytes, then as many as the last answer needed, until an answer is not short or needs more than the block has.
+/// Reads the block's first 0 bytes, then as many as the last answer needed, until an answer is not short or needs more than the block has.
 pub fn fetch_tex(block: &[u8]) -> Fetched<Counts>
     ensures { Fetch.Fetched Fetch.reading_call block.now tt (result_outcome result.answer) tt result.short_answers }
 {

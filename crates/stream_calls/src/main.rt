@@ -1,30 +1,30 @@
-// Writes what readings, records, parts and pictures answer for blocks that are still arriving, and what the fetching calls of `stream` answer, for
-// each case of its standard input.
-//
-// An answer is `ok` with its values, or `no` with the refusal's number and what is returned with it. Each call that writes gets an output
-// filled with a pattern.
-//
-// A case of prefixes is a line for each number of bytes, from the least that the case names to the block's length: that number, and then,
-// from so many first bytes of the block alone, the answers of the reading, the texture's record, the palette's record, the picture, and the
-// picture to an output of 12 bytes; and a sum of all that stands beside the answers: the records, first data, second data, the palette
-// block, and both outputs whole.
-//
-// A case of fetching is one line: the answer of the reading and of the picture, each with the number of short answers, and a sum of the
-// whole output.
-//
-// The input begins with the number of cases. A case is 10 numbers; those in pairs are the position and the length of bytes that follow the
-// cases. The numbers have 4 bytes.
-//
-// | at | number |
-// |---|---|
-// | 0 | 0: prefixes. Else: fetching |
-// | 4, 8 | the title |
-// | 12, 16 | the block |
-// | 20 | the texture's number |
-// | 24 | 0: a picture without a palette. Else: with one |
-// | 28 | the palette's number |
-// | 32 | the output's length, at most 520 |
-// | 36 | of prefixes: the least number of bytes |
+//! Writes what readings, records, parts and pictures answer for blocks that are still arriving, and what the fetching calls of `stream` answer, for
+//! each case of its standard input.
+//!
+//! An answer is `ok` with its values, or `no` with the refusal's number and what is returned with it. Each call that writes gets an output
+//! filled with a pattern.
+//!
+//! A case of prefixes is a line for each number of bytes, from the least that the case names to the block's length: that number, and then,
+//! from so many first bytes of the block alone, the answers of the reading, the texture's record, the palette's record, the picture, and the
+//! picture to an output of 12 bytes; and a sum of all that stands beside the answers: the records, first data, second data, the palette
+//! block, and both outputs whole.
+//!
+//! A case of fetching is one line: the answer of the reading and of the picture, each with the number of short answers, and a sum of the
+//! whole output.
+//!
+//! The input begins with the number of cases. A case is 10 numbers; those in pairs are the position and the length of bytes that follow the
+//! cases. The numbers have 4 bytes.
+//!
+//! | at | number |
+//! |---|---|
+//! | 0 | 0: prefixes. Else: fetching |
+//! | 4, 8 | the title |
+//! | 12, 16 | the block |
+//! | 20 | the texture's number |
+//! | 24 | 0: a picture without a palette. Else: with one |
+//! | 28 | the palette's number |
+//! | 32 | the output's length, at most 520 |
+//! | 36 | of prefixes: the least number of bytes |
 
 #![tactic(auto)]
 

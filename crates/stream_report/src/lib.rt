@@ -1,4 +1,4 @@
-// The lines that the program `stream_calls` prints of prefixes of a block, and what a case asks for.
+//! The lines that the program `stream_calls` prints of prefixes of a block, and what a case asks for.
 
 #![tactic(auto)]
 
@@ -8,18 +8,18 @@ use nitro::tex;
 use report::{counted, decimal, summed, text};
 use stream_sums::{add_parts, palette, reading, texture};
 
-// The most bytes that an output has.
+/// The most bytes that an output has.
 pub const ROOM: usize = 520;
 
-// The records and the picture that a case asks for.
+/// The records and the picture that a case asks for.
 #[derive(Clone, Copy, Debug, PartialEq, Eq)]
 pub struct Request {
     pub texture: usize,
-    // The palette whose record is asked for.
+    /// The palette whose record is asked for.
     pub palette: usize,
-    // The palette of the picture.
+    /// The palette of the picture.
     pub choice: Option<usize>,
-    // The output's length.
+    /// The output's length.
     pub room: usize,
 }
 
@@ -45,7 +45,7 @@ fn prefix(bytes: &[u8], request: Request) {
     summed(sum.0);
 }
 
-// A line for each number of bytes from least to the block's length, and for all of them where least is beyond it.
+/// A line for each number of bytes from least to the block's length, and for all of them where least is beyond it.
 pub fn prefixes(block: &[u8], least: usize, request: Request) {
     text(b"\n");
     for n in least.min(block.len())..=block.len() {

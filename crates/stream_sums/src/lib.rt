@@ -1,4 +1,4 @@
-// What the calls that read a block answer, printed, and the sum of all that stands beside the answers.
+//! What the calls that read a block answer, printed, and the sum of all that stands beside the answers.
 
 #![tactic(auto)]
 
@@ -8,7 +8,7 @@ use nitro::tex::{self, Counts, TextureRecord};
 use report::{answered, numbers};
 use told::{alpha_number, wrap_number};
 
-// Prints the answer of a reading.
+/// Prints the answer of a reading.
 pub fn reading(answer: Result<Counts, Refusal>) {
     answered(answer, |counts| {
         numbers(&[counts.textures, counts.palettes])
@@ -34,14 +34,14 @@ fn add_record(sum: &mut Sum, record: TextureRecord) {
     }
 }
 
-// Shows the record call's answer, and adds the record that stands beside it.
+/// Shows the record call's answer, and adds the record that stands beside it.
 pub fn texture(sum: &mut Sum, block: &[u8], n: usize) {
     let answer = tex::texture(block, n);
     answered(answer, |_| {});
     add_record(sum, answer.unwrap_or(tex::no_texture()));
 }
 
-// The same for a palette.
+/// The same for a palette.
 pub fn palette(sum: &mut Sum, block: &[u8], n: usize) {
     let answer = tex::palette(block, n);
     answered(answer, |_| {});
@@ -50,7 +50,7 @@ pub fn palette(sum: &mut Sum, block: &[u8], n: usize) {
     sum.add(u64::from(record.off));
 }
 
-// Adds first data, second data and the palette block.
+/// Adds first data, second data and the palette block.
 pub fn add_parts(sum: &mut Sum, block: &[u8], n: usize) {
     add_part(sum, tex::texture_data1(block, n));
     add_part(sum, tex::texture_data2(block, n));

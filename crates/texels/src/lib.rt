@@ -1,4 +1,4 @@
-// What a texel is made of: levels, alphas, palette colours, colour indices; and the texels of formats 2 to 4 and of format 7.
+//! What a texel is made of: levels, alphas, palette colours, colour indices; and the texels of formats 2 to 4 and of format 7.
 
 #![tactic(auto)]
 
@@ -8,7 +8,7 @@ ghost use Rattle.texels.specs.Index as Index;
 
 use cursor::nth_u16;
 
-// A level or an alpha of five bits.
+/// A level or an alpha of five bits.
 #[derive(Clone, Copy, Debug, PartialEq, Eq)]
 pub struct Level {
     pub bits: u8,
@@ -21,7 +21,7 @@ impl Level {
     pub const OPAQUE: Level = Level { bits: 31 };
 }
 
-// A colour's red level.
+/// A colour's red level.
 pub fn red(rgb555: u16) -> Level
     ensures { result.bits ≡ Texels.red rgb555 }
 {
@@ -30,7 +30,7 @@ pub fn red(rgb555: u16) -> Level
     }
 }
 
-// A colour's green level.
+/// A colour's green level.
 pub fn green(rgb555: u16) -> Level
     ensures { result.bits ≡ Texels.green rgb555 }
 {
@@ -39,7 +39,7 @@ pub fn green(rgb555: u16) -> Level
     }
 }
 
-// A colour's blue level.
+/// A colour's blue level.
 pub fn blue(rgb555: u16) -> Level
     ensures { result.bits ≡ Texels.blue rgb555 }
 {
@@ -48,14 +48,14 @@ pub fn blue(rgb555: u16) -> Level
     }
 }
 
-// Widens a level to eight bits.
+/// Widens a level to eight bits.
 pub fn extend_5bit_to_8bit(x: Level) -> u8
     ensures { result ≡ Texels.widen x.bits }
 {
     (x.bits << 3) | (x.bits >> 2)
 }
 
-// Widens a three-bit alpha to five bits.
+/// Widens a three-bit alpha to five bits.
 pub fn a3_to_a5(x: u8) -> Level
     requires { x < 8 }
     ensures { result.bits ≡ Texels.alpha3 x }
@@ -65,7 +65,7 @@ pub fn a3_to_a5(x: u8) -> Level
     }
 }
 
-// The RGBA bytes of a colour and an alpha.
+/// The RGBA bytes of a colour and an alpha.
 #[tactic(auto, unfolding(crate::specs::Texels::pixel))]
 pub fn rgb555a5(rgb555: u16, a5: Level) -> [u8; 4]
     ensures { result ≡ Texels.pixel rgb555 a5.bits }
@@ -78,7 +78,7 @@ pub fn rgb555a5(rgb555: u16, a5: Level) -> [u8; 4]
     ]
 }
 
-// A palette: the block that it is in, and its offset there.
+/// A palette: the block that it is in, and its offset there.
 #[derive(Clone, Copy)]
 pub struct Palette<'a> {
     pub block: &'a [u8],
@@ -86,7 +86,7 @@ pub struct Palette<'a> {
 }
 
 impl<'a> Palette<'a> {
-    // Colour i, or 0 where it is not wholly inside the palette block.
+    /// Colour i, or 0 where it is not wholly inside the palette block.
     #[tactic(auto, using(util::proofs::Takes::took, util::proofs::Takes::lacked), unfolding(crate::specs::Texels::palette_color))]
     pub fn color(self, i: u16) -> u16
         ensures { result ≡ Texels.palette_color self.entry.block.now self.entry.off i }
@@ -95,7 +95,7 @@ impl<'a> Palette<'a> {
     }
 }
 
-// The colours of formats 2 to 4: a palette, and whether its colour 0 is clear.
+/// The colours of formats 2 to 4: a palette, and whether its colour 0 is clear.
 #[derive(Clone, Copy)]
 pub struct Colors<'a> {
     pub palette: Palette<'a>,
@@ -114,7 +114,7 @@ impl<'a> Colors<'a> {
         }
     }
 
-    // A texel whose colour index is i.
+    /// A texel whose colour index is i.
     #[tactic(auto, unfolding(crate::specs::Texels::indexed))]
     pub fn texel(self, i: u8) -> [u8; 4]
         ensures { result ≡ Texels.indexed self.entry.clear0 self.entry.palette.block.now self.entry.palette.off i }
@@ -123,7 +123,7 @@ impl<'a> Colors<'a> {
     }
 }
 
-// The colour index of texel n, where a texel has 1 to 8 bits.
+/// The colour index of texel n, where a texel has 1 to 8 bits.
 pub fn index_at(data1: &[u8], bits: usize, n: usize) -> u8
     requires { Index.IndexThere bits n (length data1.now) }
     ensures { result ≡ Texels.texel_bits bits data1.now n }
@@ -143,7 +143,7 @@ fn direct_alpha(rgb555: u16) -> Level
     }
 }
 
-// A texel of format 7 by its colour.
+/// A texel of format 7 by its colour.
 pub fn direct(rgb555: u16) -> [u8; 4]
     ensures { result ≡ Texels.direct rgb555 }
 {

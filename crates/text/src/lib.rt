@@ -1,4 +1,4 @@
-// Texts that are put into an output, one behind the other. The caller shows that there is room.
+//! Texts that are put into an output, one behind the other. The caller shows that there is room.
 
 #![tactic(auto)]
 
@@ -11,7 +11,7 @@ ghost use Rattle.text.specs.Writer.{HasRoom, Adds};
 
 use errors::Refusal;
 
-// An output, and the place behind what has been put into it.
+/// An output, and the place behind what has been put into it.
 #[derive(Drop)]
 pub struct Writer<'a> {
     pub out: &'a mut [u8],
@@ -19,7 +19,7 @@ pub struct Writer<'a> {
 }
 
 impl<'a> Writer<'a> {
-    // At the start of an output.
+    /// At the start of an output.
     pub fn new(out: &'a mut [u8]) -> Writer<'a>
         ensures same_output { result.out ≡ out.entry }
         ensures at_start { result.at ≡ 0 }
@@ -37,7 +37,7 @@ impl<'a> Writer<'a> {
         self.at = end;
     }
 
-    // A field, and the space or line end behind it.
+    /// A field, and the space or line end behind it.
     #[tactic(auto, using(crate::proofs::Puts::puts))]
     pub fn put_field(&mut self, text: &[u8], end: &[u8])
         requires { HasRoom (text.now ++ end.now) self.old }
@@ -47,7 +47,7 @@ impl<'a> Writer<'a> {
         self.put(end);
     }
 
-    // A number in decimal, and the space or line end behind it.
+    /// A number in decimal, and the space or line end behind it.
     #[tactic(auto, using(crate::proofs::Decimals::decimal_digits))]
     pub fn put_number(&mut self, n: usize, end: &[u8])
         requires { HasRoom (decimal n ++ end.now) self.old }
@@ -59,7 +59,7 @@ impl<'a> Writer<'a> {
     }
 }
 
-// Writes a text to an output that has room for it.
+/// Writes a text to an output that has room for it.
 #[tactic(auto, using(crate::proofs::Puts::whole, output::proofs::Outputs::sets_start))]
 pub fn write(text: &[u8], out: &mut [u8]) -> Result<usize, Refusal>
     ensures { Writes (answered text.now) out.old (result_outcome result) out.new }

@@ -1,4 +1,4 @@
-// Writes what the readers say of each word of a list, a line a word.
+//! Writes what the readers say of each word of a list, a line a word.
 
 #![tactic(auto)]
 

@@ -1,4 +1,4 @@
-// Bit fields of unsigned integers.
+//! Bit fields of unsigned integers.
 ghost use Rattle.std.specs.Prelude.{◌≡◌, ◌≤◌};
 ghost use Rattle.util.specs.Bits.{bit_field};
 
@@ -18,7 +18,7 @@ fn field(width: u32, x: u32, lo: u32, hi: u32) -> u32
     }
 }
 
-// The same of a number of type T.
+/// The same of a number of type T.
 #[tactic(auto, using(crate::proofs::Fields::field_fits))]
 pub fn bits<T: Unsigned>(x: T, lo: u32, hi: u32) -> T
     ensures { T.number result ≡ bit_field T.BITS (T.number x) lo hi }

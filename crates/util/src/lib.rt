@@ -1,4 +1,4 @@
-// Bit fields, little-endian numbers and takes: of apicula's src/util all but the cursor, which is a crate of its own.
+//! Bit fields, little-endian numbers and takes: of apicula's src/util all but the cursor, which is a crate of its own.
 
 #![tactic(auto)]
 

@@ -1,4 +1,4 @@
-// The types of the numbers that records hold: whole numbers without sign, of 1, 2 and 4 bytes.
+//! The types of the numbers that records hold: whole numbers without sign, of 1, 2 and 4 bytes.
 ghost use Rattle.std.specs.Prelude.{◌≡◌, ◌+◌, ◌^◌, ◌<◌, ◌≤◌, ℕ, length, refl};
 ghost use Rattle.std.proofs.Common.{lit≤};
 ghost use Rattle.util.specs.Number.{number_at};
@@ -17,7 +17,7 @@ pub trait Unsigned: Copy + Into<u32> {
 
     const BITS: u32;
 
-    // The little-endian number at a position of a slice that is known to hold it. Where that is not known, cur has the call peek.
+    /// The little-endian number at a position of a slice that is known to hold it. Where that is not known, cur has the call peek.
     fn view(buf: &[u8], pos: usize) -> Self
         requires { pos + SIZE ≤ length buf.now }
         ensures { number result ≡ number_at SIZE pos buf.now };
