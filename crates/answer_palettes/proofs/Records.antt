@@ -10,7 +10,7 @@ use Rattle.util.specs.Outcome.{result}
 use Rattle.errors.specs.Refusal.{result_outcome}
 use Rattle.errors.specs.declared.Refusal.{Refusal}
 use Rattle.errors.proofs.Refusals.{refusal_not}
-use Rattle.output.specs.Output.{Writes}
+use Rattle.output.specs.Output.{write_outcome, write_output}
 use Rattle.output.proofs.Outputs.{outcome_there, output_there, text_there as first_there}
 use Rattle.name.specs.Name.{safe_text, display_text, display_byte, trimmed}
 use Rattle.name.proofs.Texts.{safe_within, trimmed_within, shown_few, shown_all}
@@ -27,10 +27,10 @@ display_fits name e =
     omega (arith, trimmed_within name, most)
 
 -- a text that fits is written
-module _ {text entry exit : List ℕ} (answer : Result ℕ Refusal) (w : Writes (result text) entry (result_outcome answer) exit)
+module _ (text entry exit : List ℕ) (answer : Result ℕ Refusal) (outcome : result_outcome answer ≡ write_outcome (result text) entry)
     (fits : length text ≤ length entry) where
   told : result_outcome answer ≡ result (length text)
-  told = w.outcome ∙ outcome_there text entry fits
+  told = outcome ∙ outcome_there text entry fits
 
   pub text_ok : IsOk answer
   text_ok = go answer told
@@ -39,15 +39,17 @@ module _ {text entry exit : List ℕ} (answer : Result ℕ Refusal) (w : Writes 
       go (Ok len) e = refl
       go (Err refused) e = absurd (refusal_not refused e)
 
-  pub text_there : {len : ℕ} → answer ≡ Ok len → len ≡ length text
-  text_there e = cc (rw e at told)
+  module _ (len : ℕ) (is : answer ≡ Ok len) (output : exit ≡ write_output (result text) entry) where
+    there : len ≡ length text
+    there = cc (rw is at told)
 
-  pub text_written : {len : ℕ} → answer ≡ Ok len → take len exit ≡ text
-  text_written e = rw (text_there e, w.output, output_there text entry fits) (first_there text entry fits)
+    pub text_written : take len exit ≡ text
+    text_written = rw (there, output, output_there text entry fits) (first_there text entry fits)
 
-  pub text_within : {len : ℕ} → answer ≡ Ok len → (len ≤ length exit) × (len ≡ length (take len exit))
-  text_within {len} e =
-      let same : len ≡ length (take len exit) = text_there e ∙ sym (ap length (text_written e)) in
-      (omega (arith, same, length-take len exit), same)
+    pub text_length : len ≡ length (take len exit)
+    text_length = there ∙ sym (ap length text_written)
 
-pub ruleset records = (safe_fits, display_fits, text_written)
+    pub text_within : len ≤ length exit
+    text_within = omega (arith, text_length, length-take len exit)
+
+pub ruleset records = (safe_fits, display_fits, text_ok, text_written, text_length)
