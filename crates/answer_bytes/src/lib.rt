@@ -1,4 +1,4 @@
-// The bytes of an answer: putting a class, a number, a part or a picture behind what is put, and comparing all with the stored bytes.
+//! The bytes of an answer: putting a class, a number, a part or a picture behind what is put, and comparing all with the stored bytes.
 
 #![tactic(auto)]
 
@@ -11,13 +11,13 @@ ghost use Rattle.answer_bytes.specs.Answer.{extended, class_of, low_bytes, part_
 use errors::Refusal;
 use std::marker::Model;
 
-// The length of the longest stored answer.
+/// The length of the longest stored answer.
 pub const MAX_ANSWER: usize = 16384;
 
-// One byte more than the longest stored answer, so that an answer that does not fit is longer than every stored one.
+/// One byte more than the longest stored answer, so that an answer that does not fit is longer than every stored one.
 pub const ROOM: usize = MAX_ANSWER + 1;
 
-// What the room for a picture is filled with. No channel of any picture has this level, so a byte that a decoder leaves out is seen.
+/// What the room for a picture is filled with. No channel of any picture has this level, so a byte that a decoder leaves out is seen.
 pub const UNWRITTEN: u8 = 1;
 
 // A refusal's class.
@@ -35,7 +35,7 @@ fn class(refusal: Refusal) -> u8
     }
 }
 
-// An answer: a list of bytes, the first len of the room. What does not fit is left out.
+/// An answer: a list of bytes, the first len of the room. What does not fit is left out.
 #[derive(Drop)]
 pub struct Answer {
     room: [u8; ROOM],
@@ -51,7 +51,7 @@ impl Model for Answer {
 }
 
 impl Answer {
-    // An answer with no bytes yet.
+    /// An answer with no bytes yet.
     pub fn new() -> Answer
         ensures { result ≡ [] }
     {
@@ -61,7 +61,7 @@ impl Answer {
         }
     }
 
-    // Puts bytes.
+    /// Puts bytes.
     #[tactic(auto, using(crate::proofs::Extended::copied))]
     pub fn put_bytes(&mut self, bytes: &[u8])
         ensures { self.new ≡ extended self.old bytes.now }
@@ -71,21 +71,21 @@ impl Answer {
         self.len += n;
     }
 
-    // Puts the low 8 bits of a number.
+    /// Puts the low 8 bits of a number.
     pub fn put_u8(&mut self, n: usize)
         ensures { self.new ≡ extended self.old (n % 256 ∷ []) }
     {
         self.put_bytes(&n.to_le_bytes()[..1]);
     }
 
-    // Puts the low 32 bits of a number, in 4 bytes.
+    /// Puts the low 32 bits of a number, in 4 bytes.
     pub fn put_u32(&mut self, n: usize)
         ensures { self.new ≡ extended self.old (low_bytes n) }
     {
         self.put_bytes(&n.to_le_bytes()[..4]);
     }
 
-    // Puts a part behind its length.
+    /// Puts a part behind its length.
     #[tactic(auto, using(crate::proofs::Extended::extended_twice))]
     pub fn put_part(&mut self, part: &[u8])
         ensures { self.new ≡ extended self.old (part_bytes part.now) }
@@ -94,15 +94,15 @@ impl Answer {
         self.put_bytes(part);
     }
 
-    // Puts a refusal's class.
+    /// Puts a refusal's class.
     pub fn put_class(&mut self, refusal: Refusal)
         ensures { self.new ≡ extended self.old (class_of (refusal_number refusal) ∷ []) }
     {
         self.put_bytes(&[class(refusal)]);
     }
 
-    // Puts class 0, and behind it the picture that `draw` writes to the room that is left. Where it is refused, its class stands in place of
-    // class 0, and nothing of what was drawn is put.
+    /// Puts class 0, and behind it the picture that `draw` writes to the room that is left. Where it is refused, its class stands in place of
+    /// class 0, and nothing of what was drawn is put.
     pub fn put_picture<F: FnOnce(&mut [u8]) -> Result<usize, Refusal>>(&mut self, draw: F)
         requires { F.IsAlwaysCallable draw }
         ensures { PutsPicture (FnOnceReturnsAtMut F.FnOnce draw) self.old self.new }
@@ -120,7 +120,7 @@ impl Answer {
         }
     }
 
-    // Whether the answer is the stored one.
+    /// Whether the answer is the stored one.
     pub fn agrees(&self, stored: &[u8]) -> bool
         ensures { IsTrue result ↔ (self.now ≡ stored.now) }
     {

@@ -1,5 +1,5 @@
-// The part of a block's answer that has its palettes: names and their texts, offsets, and the palette block. The program `replay` says what
-// stands there.
+//! The part of a block's answer that has its palettes: names and their texts, offsets, and the palette block. The program `replay` says what
+//! stands there.
 
 #![tactic(auto)]
 
@@ -22,8 +22,8 @@ fn put_text(answer: &mut Answer, text: &[u8])
     answer.put_bytes(text);
 }
 
-// What each record has: its name, its number, which is a texture's word or a palette's offset, and the name's safe text and its Display text,
-// which have at most 32 bytes.
+/// What each record has: its name, its number, which is a texture's word or a palette's offset, and the name's safe text and its Display text,
+/// which have at most 32 bytes.
 #[tactic(auto, using(answer_bytes::proofs::Extended::extended_twice, crate::proofs::Records::records))]
 pub fn put_record(answer: &mut Answer, name: Name, number: u32)
     ensures { answer.new ≡ extended answer.old (record_bytes name.0 number) }
@@ -48,7 +48,7 @@ fn put_palette(answer: &mut Answer, palette: Result<PaletteRecord, Refusal>)
     }
 }
 
-// Puts what the record call answers for each palette of the block.
+/// Puts what the record call answers for each palette of the block.
 #[tactic(auto, using(answer_bytes::proofs::Extended::extended_twice, answer_bytes::proofs::Extended::extended_none), unfolding(output::specs::Output::pieces))]
 pub fn put_palettes(answer: &mut Answer, block: &[u8], palettes: usize)
     ensures { answer.new ≡ extended answer.old (palettes_bytes block.now palettes) }
@@ -58,7 +58,7 @@ pub fn put_palettes(answer: &mut Answer, block: &[u8], palettes: usize)
     }
 }
 
-// Puts the palette block, where there is any palette.
+/// Puts the palette block, where there is any palette.
 #[tactic(auto, using(answer_bytes::proofs::Extended::extended_none))]
 pub fn put_pal_block(answer: &mut Answer, block: &[u8], palettes: usize)
     ensures { answer.new ≡ extended answer.old (pal_block_bytes block.now palettes) }

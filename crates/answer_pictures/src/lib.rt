@@ -1,4 +1,4 @@
-// The part of a block's answer that has the pictures of its textures. The program `replay` says what stands there.
+//! The part of a block's answer that has the pictures of its textures. The program `replay` says what stands there.
 
 #![tactic(auto)]
 
@@ -27,7 +27,7 @@ fn put_both(answer: &mut Answer, block: &[u8], n: usize, palettes: usize)
     }
 }
 
-// Puts the pictures of each texture.
+/// Puts the pictures of each texture.
 #[tactic(auto, unfolding(crate::specs::Pictures::with_pictures))]
 pub fn put_pictures(answer: &mut Answer, block: &[u8], textures: usize, palettes: usize)
     ensures { answer.new ≡ with_pictures block.now palettes textures answer.old }

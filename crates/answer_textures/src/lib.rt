@@ -1,4 +1,4 @@
-// The part of a block's answer that has its textures: names and their texts, words and data. The program `replay` says what stands there.
+//! The part of a block's answer that has its textures: names and their texts, words and data. The program `replay` says what stands there.
 
 #![tactic(auto)]
 
@@ -28,7 +28,7 @@ fn put_texture(answer: &mut Answer, block: &[u8], n: usize)
     }
 }
 
-// Puts each texture of the block.
+/// Puts each texture of the block.
 #[tactic(auto, using(answer_bytes::proofs::Extended::extended_twice, answer_bytes::proofs::Extended::extended_none), unfolding(output::specs::Output::pieces))]
 pub fn put_textures(answer: &mut Answer, block: &[u8], textures: usize)
     ensures { answer.new ≡ extended answer.old (textures_bytes block.now textures) }

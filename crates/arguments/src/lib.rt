@@ -1,4 +1,4 @@
-// The arguments of the program that shows a picture: numbers, and the choice of a palette.
+//! The arguments of the program that shows a picture: numbers, and the choice of a palette.
 
 #![tactic(auto)]
 
@@ -18,7 +18,7 @@ fn with_digit(n: usize, digit: u8) -> usize
     n.saturating_mul(10).saturating_add(digit).min(MAX_NUMBER)
 }
 
-// A number in decimal digits, of which there is at least one. Other texts spell none.
+/// A number in decimal digits, of which there is at least one. Other texts spell none.
 #[tactic(auto, using(crate::proofs::Spellings::none_spelled))]
 pub fn parse_number(text: &[u8]) -> Option<usize>
     ensures { result ≡ Arguments.number_of text.now }
@@ -30,7 +30,7 @@ pub fn parse_number(text: &[u8]) -> Option<usize>
         .try_fold(0, |n, &b| b.is_ascii_digit().then(|| with_digit(n, b)))
 }
 
-// A palette's number, or `-` for no palette. Other texts spell no choice.
+/// A palette's number, or `-` for no palette. Other texts spell no choice.
 #[tactic(auto, unfolding(crate::specs::Arguments::is_dash, crate::specs::Arguments::choice_of))]
 pub fn parse_choice(text: &[u8]) -> Option<Option<usize>>
     ensures { result ≡ Arguments.choice_of text.now }

@@ -1,4 +1,4 @@
-// The answer to a block, as bytes, and whether it is the stored one. The program `replay` says what an answer has.
+//! The answer to a block, as bytes, and whether it is the stored one. The program `replay` says what an answer has.
 
 #![tactic(auto)]
 
@@ -41,7 +41,7 @@ fn answer_by(block: &[u8], reading: Result<Counts, Refusal>) -> Answer
     answer
 }
 
-// Whether the block's answer is the stored one.
+/// Whether the block's answer is the stored one.
 pub fn block_agrees(block: &[u8], stored: &[u8]) -> bool
     ensures { IsTrue result ↔ (answer_to block.now ≡ stored.now) }
 {

@@ -1,4 +1,4 @@
-// Block-compressed textures: format 5.
+//! Block-compressed textures: format 5.
 
 #![tactic(auto)]
 
@@ -73,7 +73,7 @@ fn put_blocks(
     }
 }
 
-// Block-compressed texture.
+/// Block-compressed texture.
 #[tactic(auto, using(crate::proofs::Rows::band_below, crate::proofs::Rows::pieces_none, crate::proofs::Rows::band_more, crate::proofs::Rows::rows_all), unfolding(paint::specs::Paint::painted))]
 pub fn decode_format5(
     out: &mut [u8],

@@ -1,4 +1,4 @@
-// The answer to a direct decoding, as bytes, and whether it is the stored one. The program `replay` says what an answer has.
+//! The answer to a direct decoding, as bytes, and whether it is the stored one. The program `replay` says what an answer has.
 
 #![tactic(auto)]
 
@@ -9,7 +9,7 @@ ghost use Rattle.answer_bytes.specs.Answer.{with_picture};
 use answer_bytes::Answer;
 use decode::decode_texture::{Texture, decode_texture};
 
-// Whether the direct decoding's answer is the stored one.
+/// Whether the direct decoding's answer is the stored one.
 #[tactic(auto, using(answer_bytes::proofs::Pictures::drawn_made))]
 pub fn direct_agrees(texture: Texture, stored: &[u8]) -> bool
     ensures { IsTrue result ↔ (with_picture [] (decoded (sources texture.entry.params.0 texture.entry.data1.now texture.entry.data2.now texture.entry.palette texture.entry.pal_block.now)) ≡ stored.now) }

@@ -1,6 +1,6 @@
-// The picture program: writes a picture of a TEX0 block to its standard output, as a PAM image. The arguments are the block's file, the texture's
-// number, and the palette's number or `-` for no palette. Where there is no picture standard output stays empty, and standard error says why: the
-// listing's line of a refusal, that the file is too long, why it cannot be opened, or how the program is used.
+//! The picture program: writes a picture of a TEX0 block to its standard output, as a PAM image. The arguments are the block's file, the texture's
+//! number, and the palette's number or `-` for no palette. Where there is no picture standard output stays empty, and standard error says why: the
+//! listing's line of a refusal, that the file is too long, why it cannot be opened, or how the program is used.
 
 #![tactic(auto)]
 
@@ -124,7 +124,7 @@ fn show_file<R: Env + Files + Print + Alloc>(
     }
 }
 
-// Runs the program, whose messages go to `err`.
+/// Runs the program, whose messages go to `err`.
 pub fn run<R: Env + Files + Print + Alloc>(rt: &R, err: &impl Print) -> io::Result<()> {
     match parse_arguments(rt) {
         Some(request) => show_file(rt, err, request),

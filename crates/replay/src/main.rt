@@ -1,42 +1,42 @@
-// Runs a stored list of cases, each with what the Rust answered, and compares what the port answers. It writes `case K differs` for each case
-// that it answers otherwise, where cases count from 0, and at the end `N of M agree`: N cases of M. Where the list is cut, or a case has another
-// first byte or a length over its limit, it writes `list broken at case K` and ends.
-//
-// The list is its standard input: cases up to the end. Numbers have 4 bytes where nothing else is said, and are little-endian.
-//
-// A case that begins with `B` is a block:
-//
-// - its length, at most 4,096, and the block;
-// - the answer's length, at most 16,384, and the answer.
-//
-// A case that begins with `D` is a direct decoding:
-//
-// - the texture word;
-// - 1 byte, 0: no palette. Else: one;
-// - the palette's offset;
-// - the lengths of first data, second data and palette block, each at most 4,096, and then the three;
-// - the answer's length, at most 16,384, and the answer.
-//
-// An answer begins with its class, in 1 byte:
-//
-// | class | refusals |
-// |---|---|
-// | 0 | none |
-// | 1, 2 | 1, 2 |
-// | 3 | 3 and 5, which are one error of the Rust's |
-// | 4 | 4 and 6, likewise |
-// | 9, 10 | 9, 10 |
-// | 255 | all others, which the Rust does not have |
-//
-// Behind class 0, the answer to a direct decoding has the picture's bytes, with no length. The answer to a block has:
-//
-// - the number of textures and the number of palettes, 1 byte each;
-// - for each texture its name in 16 bytes, its word, its safe text and its Display text, each behind its length in 1 byte, and its first and
-//   second data, each behind its length;
-// - for each palette its name, its offset and the two texts;
-// - where there is any palette, the palette block behind its length;
-// - for each texture the class and bytes of its picture without a palette, and, where there is any palette, the same with the palette whose
-//   number is the texture's modulo the number of palettes.
+//! Runs a stored list of cases, each with what the Rust answered, and compares what the port answers. It writes `case K differs` for each case
+//! that it answers otherwise, where cases count from 0, and at the end `N of M agree`: N cases of M. Where the list is cut, or a case has another
+//! first byte or a length over its limit, it writes `list broken at case K` and ends.
+//!
+//! The list is its standard input: cases up to the end. Numbers have 4 bytes where nothing else is said, and are little-endian.
+//!
+//! A case that begins with `B` is a block:
+//!
+//! - its length, at most 4,096, and the block;
+//! - the answer's length, at most 16,384, and the answer.
+//!
+//! A case that begins with `D` is a direct decoding:
+//!
+//! - the texture word;
+//! - 1 byte, 0: no palette. Else: one;
+//! - the palette's offset;
+//! - the lengths of first data, second data and palette block, each at most 4,096, and then the three;
+//! - the answer's length, at most 16,384, and the answer.
+//!
+//! An answer begins with its class, in 1 byte:
+//!
+//! | class | refusals |
+//! |---|---|
+//! | 0 | none |
+//! | 1, 2 | 1, 2 |
+//! | 3 | 3 and 5, which are one error of the Rust's |
+//! | 4 | 4 and 6, likewise |
+//! | 9, 10 | 9, 10 |
+//! | 255 | all others, which the Rust does not have |
+//!
+//! Behind class 0, the answer to a direct decoding has the picture's bytes, with no length. The answer to a block has:
+//!
+//! - the number of textures and the number of palettes, 1 byte each;
+//! - for each texture its name in 16 bytes, its word, its safe text and its Display text, each behind its length in 1 byte, and its first and
+//!   second data, each behind its length;
+//! - for each palette its name, its offset and the two texts;
+//! - where there is any palette, the palette block behind its length;
+//! - for each texture the class and bytes of its picture without a palette, and, where there is any palette, the same with the palette whose
+//!   number is the texture's modulo the number of palettes.
 
 #![tactic(auto)]
 

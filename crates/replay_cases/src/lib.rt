@@ -1,4 +1,4 @@
-// Reading the list of cases that the program `replay` runs, from standard input: bytes, arrays of bytes, and parts behind their length.
+//! Reading the list of cases that the program `replay` runs, from standard input: bytes, arrays of bytes, and parts behind their length.
 
 #![tactic(auto)]
 
@@ -6,15 +6,15 @@ ghost use Rattle.std.specs.Prelude.{◌≡◌, ◌≤◌, length, IfOk, OnOk};
 
 use report::STDIN_FILENO;
 
-// The limit of a block, and of each part of a direct decoding.
+/// The limit of a block, and of each part of a direct decoding.
 pub const MAX_PART: usize = 4096;
 
-// The list is broken: it is cut, or a length is over its limit.
+/// The list is broken: it is cut, or a length is over its limit.
 #[derive(Clone, Copy, Debug, PartialEq, Eq)]
 pub struct Broken;
 
-// Reads the list's next len bytes to the start of the buffer, and returns them. The list is broken where there are fewer, or the buffer is
-// shorter.
+/// Reads the list's next len bytes to the start of the buffer, and returns them. The list is broken where there are fewer, or the buffer is
+/// shorter.
 pub fn next_bytes<'a>(buffer: &'a mut [u8], len: usize) -> Result<&'a [u8], Broken>
     ensures whole { IfOk result (λ bytes. length bytes.now ≡ len) }
     ensures limit { OnOk result (len ≤ length buffer.old) }
@@ -26,14 +26,14 @@ pub fn next_bytes<'a>(buffer: &'a mut [u8], len: usize) -> Result<&'a [u8], Brok
     Ok(bytes)
 }
 
-// The list's next N bytes.
+/// The list's next N bytes.
 pub fn next_array<const N: usize>() -> Result<[u8; N], Broken> {
     let mut bytes = [0; N];
     next_bytes(&mut bytes, N)?;
     Ok(bytes)
 }
 
-// Reads a length, and as many bytes to the start of the buffer.
+/// Reads a length, and as many bytes to the start of the buffer.
 pub fn next_part<'a>(buffer: &'a mut [u8]) -> Result<&'a [u8], Broken>
     ensures { IfOk result (λ part. length part.now ≤ length buffer.old) }
 {

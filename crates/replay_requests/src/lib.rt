@@ -1,4 +1,4 @@
-// Running a case of the program `replay` that is a direct decoding.
+//! Running a case of the program `replay` that is a direct decoding.
 
 #![tactic(auto)]
 
@@ -13,7 +13,7 @@ fn next_u32() -> Result<u32, Broken> {
     Ok(u32::from_le_bytes(next_array()?))
 }
 
-// Whether a case that is a direct decoding agrees.
+/// Whether a case that is a direct decoding agrees.
 pub fn run_direct() -> Result<bool, Broken> {
     let params = TextureParams(next_u32()?);
     let [has_palette] = next_array::<1>()?;

@@ -1,4 +1,4 @@
-// Running the next case of the list that the program `replay` reads.
+//! Running the next case of the list that the program `replay` reads.
 
 #![tactic(auto)]
 
@@ -15,7 +15,7 @@ fn run_block() -> Result<bool, Broken> {
     Ok(block_agrees(block, next_part(&mut stored)?))
 }
 
-// Whether the list's next case agrees, or None at the list's end. A case's first byte says what it is.
+/// Whether the list's next case agrees, or None at the list's end. A case's first byte says what it is.
 pub fn run_case() -> Result<Option<bool>, Broken> {
     let Ok(first) = next_array::<1>() else {
         return Ok(None);

@@ -1,4 +1,4 @@
-// What the picture program shows of a file: its image, or why there is none.
+//! What the picture program shows of a file: its image, or why there is none.
 
 #![tactic(auto)]
 
@@ -11,17 +11,17 @@ use errors::Refusal;
 use pam::pam;
 use std::fmt;
 
-// The longest file that is read, in bytes: 3 MiB.
+/// The longest file that is read, in bytes: 3 MiB.
 pub const MAX_BLOCK: usize = 3145728;
 
-// No image is longer than this, in bytes: a header of 71 bytes, and 4 for each of 1024 times 1024 texels.
+/// No image is longer than this, in bytes: a header of 71 bytes, and 4 for each of 1024 times 1024 texels.
 pub const MAX_PAM: usize = 4194375;
 
-// Why no image is shown of a file.
+/// Why no image is shown of a file.
 #[derive(Clone, Copy, Debug, PartialEq, Eq)]
 pub enum Unshown {
     Refused(Refusal),
-    // The file is too long to be read.
+    /// The file is too long to be read.
     TooLong,
 }
 
@@ -45,8 +45,8 @@ impl fmt::Display for Unshown {
     }
 }
 
-// Writes the picture of texture n with the chosen palette as a PAM image to an output that has room for every image. A file that is refused
-// or too long leaves every byte of the output as it was.
+/// Writes the picture of texture n with the chosen palette as a PAM image to an output that has room for every image. A file that is refused
+/// or too long leaves every byte of the output as it was.
 #[tactic(auto, using(pam::proofs::Bounds::pam_fits), unfolding(output::specs::Output::write_outcome, output::specs::Output::write_output, crate::specs::Show::shown_of, crate::specs::Show::shown_output))]
 pub fn show(
     file: &[u8],

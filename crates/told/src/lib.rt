@@ -1,4 +1,4 @@
-// What the calls for other languages tell of an answer, in numbers.
+//! What the calls for other languages tell of an answer, in numbers.
 
 #![tactic(auto)]
 
@@ -24,21 +24,21 @@ pub fn alpha_number(alpha: Alpha) -> u32
     alpha as u32
 }
 
-// The palette that is chosen, by its number for a picture and by its offset for a direct decoding: none where has_palette is 0.
+/// The palette that is chosen, by its number for a picture and by its offset for a direct decoding: none where has_palette is 0.
 pub fn choice_of<T: Drop>(has_palette: u32, palette: T) -> Option<T>
     ensures { result ≡ Told.choice_of has_palette palette }
 {
     (has_palette != 0).then_some(palette)
 }
 
-// The number that a call returns: 0, or the refusal's.
+/// The number that a call returns: 0, or the refusal's.
 pub fn code_of<T: Copy>(answer: Result<T, Refusal>) -> u32
     ensures { result ≡ Told.code_of (result_outcome answer) }
 {
     answer.err().map_or(0, |refusal| refusal.number() as u32)
 }
 
-// What is told of every answer: its number, and the length that a short block needs, which is 0 where the block is not short.
+/// What is told of every answer: its number, and the length that a short block needs, which is 0 where the block is not short.
 pub fn tell<T: Copy>(answer: Result<T, Refusal>, needed: &mut usize) -> u32
     ensures value { result ≡ Told.code_of (result_outcome answer) }
     ensures needed_after { needed.new ≡ Told.needed_of (result_outcome answer) }
@@ -47,7 +47,7 @@ pub fn tell<T: Copy>(answer: Result<T, Refusal>, needed: &mut usize) -> u32
     code_of(answer)
 }
 
-// An answer with a length, of a call that is never short.
+/// An answer with a length, of a call that is never short.
 pub fn tell_len(answer: Result<usize, Refusal>, len: &mut usize) -> u32
     ensures value { result ≡ Told.code_of (result_outcome answer) }
     ensures len_after { len.new ≡ Told.left len.old Told.itself (result_outcome answer) }
@@ -58,7 +58,7 @@ pub fn tell_len(answer: Result<usize, Refusal>, len: &mut usize) -> u32
     code_of(answer)
 }
 
-// An answer with a length.
+/// An answer with a length.
 pub fn tell_count(answer: Result<usize, Refusal>, len: &mut usize, needed: &mut usize) -> u32
     ensures value { result ≡ Told.code_of (result_outcome answer) }
     ensures len_after { len.new ≡ Told.left len.old Told.itself (result_outcome answer) }
@@ -68,7 +68,7 @@ pub fn tell_count(answer: Result<usize, Refusal>, len: &mut usize, needed: &mut 
     tell(answer, needed)
 }
 
-// A reading's answer.
+/// A reading's answer.
 pub fn tell_counts(
     answer: Result<Counts, Refusal>,
     textures: &mut usize,
@@ -87,7 +87,7 @@ pub fn tell_counts(
     tell(answer, needed)
 }
 
-// An answer with a part's place.
+/// An answer with a part's place.
 pub fn tell_part(
     answer: Result<Place, Refusal>,
     pos: &mut usize,
