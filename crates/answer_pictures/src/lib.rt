@@ -7,6 +7,7 @@ ghost use Rattle.answer_pictures.specs.Pictures.{with_one, with_both, with_pictu
 
 use answer_bytes::Answer;
 use decode::picture::picture;
+use nitro::tex::Counts;
 
 // Puts the picture of texture n with the chosen palette.
 #[tactic(auto, using(answer_bytes::proofs::Pictures::drawn_made))]
@@ -22,17 +23,17 @@ fn put_both(answer: &mut Answer, block: &[u8], n: usize, palettes: usize)
     ensures { answer.new ≡ with_both block.now palettes n answer.old }
 {
     put_one(answer, block, n, None);
-    if palettes != 0 {
-        put_one(answer, block, n, Some(n % palettes));
+    if let Some(k) = n.checked_rem(palettes) {
+        put_one(answer, block, n, Some(k));
     }
 }
 
 /// Puts the pictures of each texture.
 #[tactic(auto, unfolding(crate::specs::Pictures::with_pictures))]
-pub fn put_pictures(answer: &mut Answer, block: &[u8], textures: usize, palettes: usize)
-    ensures { answer.new ≡ with_pictures block.now palettes textures answer.old }
+pub fn put_pictures(answer: &mut Answer, block: &[u8], counts: Counts)
+    ensures { answer.new ≡ with_pictures block.now counts.palettes counts.textures answer.old }
 {
-    for n in 0..textures {
-        put_both(answer, block, n, palettes);
+    for n in 0..counts.textures {
+        put_both(answer, block, n, counts.palettes);
     }
 }

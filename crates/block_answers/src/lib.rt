@@ -26,7 +26,7 @@ fn put_read(answer: &mut Answer, block: &[u8], counts: Counts)
     put_textures(answer, block, counts.textures);
     put_palettes(answer, block, counts.palettes);
     put_pal_block(answer, block, counts.palettes);
-    put_pictures(answer, block, counts.textures, counts.palettes);
+    put_pictures(answer, block, counts);
 }
 
 // The answer to a block that is read so.

@@ -79,7 +79,7 @@ pub fn filled<const N: usize>() -> [u8; N]
 }
 
 /// A sum of numbers. It depends on each number and on its place.
-#[derive(Clone, Copy)]
+#[derive(Clone, Copy, Debug, PartialEq, Eq)]
 pub struct Sum(pub u64);
 
 impl Sum {

@@ -18,7 +18,7 @@ const MAX_ARGUMENT: usize = 4096;
 const ENAMETOOLONG: i32 = 36;
 
 // Which picture: a texture's number, and the palette that is chosen.
-#[derive(Clone, Copy)]
+#[derive(Clone, Copy, Debug, PartialEq, Eq)]
 struct Request {
     n: usize,
     choice: Option<usize>,

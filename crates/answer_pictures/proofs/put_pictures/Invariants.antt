@@ -4,4 +4,4 @@ use Rattle.answer_pictures.specs.Pictures.{with_pictures}
 use Rattle.answer_pictures.proofs.put_pictures.Given as goal
 
 abbrev pub invariant-loop-n : goal.invariant-loop-n
-invariant-loop-n l = l.answer ≡ with_pictures l.block l.palettes l.n l.initial.answer
+invariant-loop-n l = l.answer ≡ with_pictures l.block l.counts.palettes l.n l.initial.answer
