@@ -1,6 +1,6 @@
 -- 01, "Pixels": "Data beyond the needed length is ignored." Assumes nothing.
 use Prim.Native.Nat.{ℕ, ◌+◌, ◌*◌, ◌/◌, ◌%◌, ◌≤◌, ◌<◌}
-use mathlib.Core.Path.{◌≡◌, refl, sym, ◌∙◌}
+use mathlib.Core.Path.{◌≡◌, refl, ◌∙◌}
 use mathlib.Core.Bool.{Bool, true, false}
 use mathlib.Core.List.{List}
 use native.Mathlib.Nat.{zero-add, mul_comm, mod-lt, div-lt_iff_lt-mul}
@@ -10,18 +10,15 @@ use lib.Seq.{get_or-take, length-take-le, take_all}
 use lib.Dec.{eqb, ltb}
 use borrow.Author.Count.{below_none, below_more}
 use borrow.Author.Tests.{le-ltb, ltb-true, ltb-false, eqb-false}
-use Rattle.util.specs.Outcome.{result, ◌>>=◌}
+use Rattle.util.specs.Outcome.{◌>>=◌}
 use Rattle.util.specs.Number.{number_at}
 use Rattle.util.proofs.Numbers.{number_in_part}
 use Rattle.nds.specs.Params.{width, height, format}
 use Rattle.nds.specs.Formats.{data_length, second_length}
 use Rattle.places.specs.Sources.{Sources}
 use Rattle.texels.specs.Texels.{texel_bits, block_of, format1, formats2to4, format5, format6, format7}
-use Rattle.paint.specs.Paint.{painted}
-use Rattle.decode.specs.Checks.{Decodable, checked}
-use Rattle.decode.specs.Pictures.{texel_count, picture_length, texel, picture_bytes, lacks_palette, ready, decoded, needed}
-use Rattle.decode.proofs.Pictures.{Ready, ready_if, writes_decoded, eights, length_by, second_by, texel_by}
-use Rattle.output.specs.Output.{Writes, write_outcome, write_output}
+use Rattle.decode.specs.Pictures.{texel_count, texel, picture_bytes, lacks_palette, ready, decoded, needed}
+use Rattle.decode.proofs.Pictures.{eights, length_by, second_by, texel_by}
 use Rattle.output.proofs.Outputs.{pieces_same}
 use Rattle.compressed.proofs.Rows.{mul_below}
 
@@ -111,16 +108,6 @@ same_bytes : (s : Sources) → (format s.word ≡ 0 → ⊥) → picture_bytes s
 unfolding picture_bytes
 same_bytes s some = pieces_same (texel s) (texel (needed s)) (texel_count s.word) (λ n h. same_texel s n h some)
 
--- texels of the needed data, written: those of all the data
-pub writes_needed : (s t : Sources) (out : List ℕ) {exit : List ℕ} → t ≡ needed s
-    → ready s.word (length s.parts.data1) (length s.parts.data2) s.palette ≡ result tt
-    → Decodable s.word (length s.parts.data1) (length s.parts.data2) (length out)
-    → exit ≡ painted (texel t) (texel_count t.word) out → Writes (decoded s) out (result (picture_length s.word)) exit
-unfolding painted
-writes_needed s t out e is d w =
-    let same = pieces_same (texel s) (texel (needed s)) (texel_count s.word) (λ n h. same_texel s n h (λ z. omega (arith, z, d.some))) in
-    rw (w, e, ← same) (writes_decoded s out is d.room)
-
 pub beyond_ignored : (s : Sources) → decoded s ≡ decoded (needed s)
 unfolding decoded ready ◌>>=◌
 beyond_ignored s = go (lacks_palette s.word s.palette) (eqb (format s.word) 0) refl refl
@@ -134,19 +121,3 @@ beyond_ignored s = go (lacks_palette s.word s.palette) (eqb (format s.word) 0) r
           cut_short (second_length s.word) s.parts.data2,
           same_bytes s (eqb-false (format s.word) 0 hf),
         )
-
--- what a decoding answers and leaves where the checks pass
-module _ (s : Sources) (out : List ℕ) (passed : result tt ≡ checked s.word (length s.parts.data1) (length s.parts.data2) s.palette (length out)) where
-  written : Writes (decoded s) out (result (picture_length s.word)) (painted (texel (needed s)) (texel_count s.word) out)
-  written =
-      let r : Ready s.word (length s.parts.data1) (length s.parts.data2) s.palette (length out) = ready_if _ _ _ _ _ passed in
-      writes_needed s (needed s) out refl r.is r.decodable refl
-
-  pub answer_decoded : write_outcome (decoded s) out ≡ result (picture_length s.word)
-  answer_decoded = sym written.outcome
-
-  pub output_decoded : write_output (decoded s) out ≡ painted (texel (needed s)) (texel_count s.word) out
-  output_decoded = sym written.output
-
--- for the function that decodes
-pub ruleset decodes = (ready_if, length-take-le, answer_decoded, output_decoded)

@@ -14,7 +14,7 @@ use Rattle.util.specs.Outcome.{Outcome, result, refusal, ◌>>=◌}
 use Rattle.nds.specs.Params.{width, height, format}
 use Rattle.nds.specs.Formats.{bits_per_texel, data_length, second_length}
 use Rattle.errors.specs.Refusal.{refusal_outcome}
-use Rattle.output.specs.Output.{Writes, pieces}
+use Rattle.output.specs.Output.{Writes, pieces, write_outcome, write_output}
 use Rattle.errors.specs.declared.Refusal.{Refusal}
 use Rattle.errors.proofs.Refusals as refusals
 use Rattle.errors.proofs.Refusals.{refusal_not, refusal_any}
@@ -23,9 +23,9 @@ use Rattle.scripts.specs.Script.{Answer}
 use Rattle.reading.specs.Tex.{Contents}
 use Rattle.places.specs.Sources.{Sources, sources_of}
 use Rattle.places.proofs.Sources.{passed_on, located_sources, located_refused}
-use Rattle.paint.specs.Paint.{painted, IndexedFits}
+use Rattle.paint.specs.Paint.{painted}
 use Rattle.decode.specs.Pictures.{texel_count, picture_length, texel, texel_in, picture_bytes, lacks_palette, lacks_data, ready, decoded, picture_of}
-use Rattle.decode.specs.Checks.{Decodable, Exact, lacks_room, checked}
+use Rattle.decode.specs.Checks.{Decodable, lacks_room, checked}
 use Rattle.compressed.specs.Blocks.{PictureFits}
 use Rattle.paint.proofs.Quads.{length_quads, painted_same}
 use Rattle.texels.proofs.Texels.{format1_four, formats2to4_four, format5_four, format6_four, format7_four}
@@ -205,6 +205,22 @@ module _ (s : Sources) where
           holds = rw length_picture (picture_is out);
         }))
 
+-- what a decoding answers and leaves where the checks pass
+module _ (s : Sources) (out : List ℕ) (passed : result tt ≡ checked s.word (length s.parts.data1) (length s.parts.data2) s.palette (length out)) where
+  written : Writes (decoded s) out (result (picture_length s.word)) (painted (texel s) (texel_count s.word) out)
+  written =
+      let r : Ready s.word (length s.parts.data1) (length s.parts.data2) s.palette (length out) = ready_if _ _ _ _ _ passed in
+      writes_decoded s out r.is r.decodable.room
+
+  pub answer_decoded : write_outcome (decoded s) out ≡ result (picture_length s.word)
+  answer_decoded = sym written.outcome
+
+  pub output_decoded : write_output (decoded s) out ≡ painted (texel s) (texel_count s.word) out
+  output_decoded = sym written.output
+
+-- for the function that decodes
+pub ruleset decodes = (ready_if, answer_decoded, output_decoded)
+
 -- texels by format
 module _ (f : ℕ) (s : Sources) (is : format s.word ≡ f) where
   pub texel_by : (n : ℕ) → texel s n ≡ texel_in f s n
@@ -230,31 +246,20 @@ data_bits w =
     let all : texel_count w * bits ≡ 8 * (8 * m * bits) = rw ((eights w).texels, ← mul_assoc 8 (8 * m) bits, ← mul_assoc 8 8 m) refl in
     omega (arith, all)
 
--- what the loops of a format ask for, of a texture whose data are as long as its word says
-module _ {w length1 length2 output : ℕ} (d : Exact w length1 length2 output) where
-  bits_there : {f : ℕ} → format w ≡ f → texel_count w * bits_per_texel f ≡ 8 * length1
-  bits_there is = omega (arith, d.data1, rw is at (data_bits w))
-
-  pub bytes_fit : {f : ℕ} → format w ≡ f → bits_per_texel f ≡ 8 → (length1 ≡ texel_count w) × (4 * length1 ≤ output)
-  bytes_fit is eight = let there = rw eight at (bits_there is) in (omega (arith, there), omega (arith, there, d.room))
-
-  pub indexed_fits : {n : ℕ} (f : ℕ) → (n ≡ texel_count w) × (n < 2 ^ 32) → format w ≡ f → 0 < bits_per_texel f → bits_per_texel f ≤ 8
-      → IndexedFits (bits_per_texel f) n length1 output
-  indexed_fits f (count, small) is some byte =
-      record { some = some; byte = byte; small = small; there = rw count (omega (arith, bits_there is)); room = omega (arith, count, d.room) }
-
-  pub picture_fits : format w ≡ 5 → PictureFits (width w) (height w) length1 length2 output
-  picture_fits is =
-      let e = eights w in
-      let there = bits_there is in
-      record {
-        fours = omega (arith, e.wide);
-        rows = omega (arith, e.high);
-        some = omega (arith, e.wide, e.some);
-        data1 = omega (arith, e.blocks, e.texels, there);
-        data2 = omega (arith, e.blocks, e.texels, length_by w is, second_by w is, d.data2);
-        room = omega (arith, d.room);
-      }
+-- what the loops of format 5 ask for, of a texture that can be decoded
+pub picture_fits : {w length1 length2 output : ℕ} → Decodable w length1 length2 output → format w ≡ 5
+    → PictureFits (width w) (height w) length1 length2 output
+picture_fits {w = w} d is =
+    let e = eights w in
+    let there : texel_count w * bits_per_texel 5 ≡ 8 * data_length w = rw is at (sym (data_bits w)) in
+    record {
+      fours = omega (arith, e.wide);
+      rows = omega (arith, e.high);
+      some = omega (arith, e.wide, e.some);
+      data1 = omega (arith, e.blocks, e.texels, there, d.data1);
+      data2 = omega (arith, e.blocks, e.texels, there, length_by w is, second_by w is, d.data2);
+      room = omega (arith, d.room);
+    }
 
 -- the texels of a format, written
 module _ (s : Sources) (n : ℕ) (out : List ℕ) where

@@ -1,5 +1,5 @@
 -- Whether a texture can be decoded. Assumes nothing.
-use Rattle.std.specs.Prelude.{ℕ, ◌≤◌, ◌<◌, ◌≡◌, Bool, cond, ltb, Option}
+use Rattle.std.specs.Prelude.{ℕ, ◌≤◌, ◌<◌, Bool, cond, ltb, Option}
 use Rattle.util.specs.Outcome.{Outcome, result, refusal, ◌>>=◌}
 use Rattle.nds.specs.Params.{format}
 use Rattle.nds.specs.Formats.{data_length, second_length}
@@ -19,11 +19,4 @@ pub record Decodable (word length1 length2 output : ℕ) : Type 0 where
   pub some : 0 < format word
   pub data1 : data_length word ≤ length1
   pub data2 : second_length word ≤ length2
-  pub room : picture_length word ≤ output
-
--- And one whose data are as long as its word says.
-pub record Exact (word length1 length2 output : ℕ) : Type 0 where
-  pub some : 0 < format word
-  pub data1 : length1 ≡ data_length word
-  pub data2 : length2 ≡ second_length word
   pub room : picture_length word ≤ output

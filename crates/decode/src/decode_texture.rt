@@ -12,6 +12,7 @@ use direct::decode_format7;
 use errors::Refusal;
 use nds::texture_formats::TextureFormat;
 use nds::texture_params::TextureParams;
+use paint::first_data::FirstData;
 use paint::{decode_format1, decode_format2, decode_format3, decode_format4, decode_format6};
 use texels::{Colors, Palette};
 
@@ -83,28 +84,16 @@ impl<'a> Texture<'a> {
         Ok(())
     }
 
-    // The texture with its data cut to the lengths that its word says.
-    fn needed(self) -> Texture<'a>
-        requires { (Formats.data_length self.params.0 ≤ length self.data1.now) × (Formats.second_length self.params.0 ≤ length self.data2.now) }
-        ensures { Pictures.sources result.params.0 result.data1.now result.data2.now result.palette result.pal_block.now ≡ Pictures.needed (Pictures.sources self.entry.params.0 self.entry.data1.now self.entry.data2.now self.entry.palette self.entry.pal_block.now) }
-    {
-        Texture {
-            data1: &self.data1[..self.params.byte_len()],
-            data2: &self.data2[..self.params.byte_len2()],
-            ..self
-        }
-    }
-
     // Writes all texels, by the texture's format. It is not inlined behind the checks: the compiler would take the loops over the texels for
     // seldom run there, and not align them, which makes some of them a third slower.
     #[inline(never)]
     #[tactic(auto, using(crate::proofs::Pictures::formats))]
     fn decode_format(self, out: &mut [u8])
-        requires { Checks.Exact self.params.0 (length self.data1.now) (length self.data2.now) (length out.old) }
+        requires { Checks.Decodable self.params.0 (length self.data1.now) (length self.data2.now) (length out.old) }
         ensures { out.new ≡ Paint.painted (Pictures.texel (Pictures.sources self.entry.params.0 self.entry.data1.now self.entry.data2.now self.entry.palette self.entry.pal_block.now)) (Pictures.texel_count self.entry.params.0) out.old }
     {
         let params = self.params;
-        let data1 = self.data1;
+        let bytes = self.data1;
         let palette = Palette {
             block: self.pal_block,
             off: self.palette.unwrap_or(0),
@@ -113,29 +102,38 @@ impl<'a> Texture<'a> {
             palette,
             clear0: params.is_color0_transparent(),
         };
+        let num_texels = num_texels(params);
         match params.format() {
             TextureFormat::NoTexture => unreachable!(),
-            TextureFormat::A3I5 => decode_format1(out, data1, palette),
-            TextureFormat::Palette4 => decode_format2(out, num_texels(params), data1, colors),
-            TextureFormat::Palette16 => decode_format3(out, num_texels(params), data1, colors),
-            TextureFormat::Palette256 => decode_format4(out, data1, colors),
+            TextureFormat::A3I5 => decode_format1(out, FirstData { bytes, num_texels }, palette),
+            TextureFormat::Palette4 => decode_format2(out, FirstData { bytes, num_texels }, colors),
+            TextureFormat::Palette16 => decode_format3(
+                out,
+                FirstData { bytes, num_texels },
+                colors,
+            ),
+            TextureFormat::Palette256 => decode_format4(
+                out,
+                FirstData { bytes, num_texels },
+                colors,
+            ),
             TextureFormat::Compressed => {
                 let width = params.width() as usize;
                 let height = params.height() as usize;
-                decode_format5(out, width, height, data1, self.data2, palette)
+                decode_format5(out, width, height, self.data1, self.data2, palette)
             }
-            TextureFormat::A5I3 => decode_format6(out, data1, palette),
-            TextureFormat::Direct => decode_format7(out, data1),
+            TextureFormat::A5I3 => decode_format6(out, FirstData { bytes, num_texels }, palette),
+            TextureFormat::Direct => decode_format7(out, FirstData { bytes, num_texels }),
         }
     }
 }
 
 /// Decodes a texture, with a palette where its format needs one, and returns the picture's length in bytes.
-#[tactic(auto, using(crate::proofs::Beyond::decodes))]
+#[tactic(auto, using(crate::proofs::Pictures::decodes))]
 pub fn decode_texture(texture: Texture, out: &mut [u8]) -> Result<usize, Refusal>
     ensures { Writes (Pictures.decoded (Pictures.sources texture.entry.params.0 texture.entry.data1.now texture.entry.data2.now texture.entry.palette texture.entry.pal_block.now)) out.old (result_outcome result) out.new }
 {
     texture.check(out.len())?;
-    texture.needed().decode_format(out);
+    texture.decode_format(out);
     Ok(texture.picture_len())
 }

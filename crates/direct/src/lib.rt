@@ -8,22 +8,24 @@ ghost use Rattle.paint.specs.Paint as Paint;
 ghost use Rattle.direct.specs.Words as Words;
 
 use one::texel7;
+use paint::first_data::FirstData;
 use paint::put_texels;
 use std::array;
 use texels::{Level, extend_5bit_to_8bit};
 
 // Direct colour texture, each texel by itself.
-fn decode_small_format7(out: &mut [u8], data1: &[u8])
-    requires { 4 * (length data1.now / 2) ≤ length out.old }
-    ensures { out.new ≡ Paint.painted (Texels.format7 data1.now) (length data1.now / 2) out.old }
+fn decode_small_format7(out: &mut [u8], data1: FirstData<16>)
+    requires { 4 * data1.num_texels ≤ length out.old }
+    ensures { out.new ≡ Paint.painted (Texels.format7 data1.entry.bytes.now) data1.entry.num_texels out.old }
 {
+    let bytes = data1.bytes;
     put_texels(
         out,
-        data1.len() / 2,
+        data1.num_texels,
         |n|
-            requires { 2 * n + 2 ≤ length data1.now }
-            ensures { result ≡ Texels.format7 data1.entry.now n }
-        { texel7(data1, n) },
+            requires { 2 * n + 2 ≤ length bytes.now }
+            ensures { result ≡ Texels.format7 bytes.entry.now n }
+        { texel7(bytes, n) },
     );
 }
 
@@ -83,28 +85,29 @@ fn direct_by(lows: &[u32], highs: &[u32], lo: u8, hi: u8) -> [u8; 4]
 
 // Direct colour texture, by a table for each byte of a colour.
 #[tactic(auto, using(crate::proofs::Words::number_two), unfolding(texels::specs::Texels::format7))]
-fn decode_large_format7(out: &mut [u8], data1: &[u8])
-    requires { 4 * (length data1.now / 2) ≤ length out.old }
-    ensures { out.new ≡ Paint.painted (Texels.format7 data1.now) (length data1.now / 2) out.old }
+fn decode_large_format7(out: &mut [u8], data1: FirstData<16>)
+    requires { 4 * data1.num_texels ≤ length out.old }
+    ensures { out.new ≡ Paint.painted (Texels.format7 data1.entry.bytes.now) data1.entry.num_texels out.old }
 {
+    let bytes = data1.bytes;
     let lows = low_words();
     let highs = high_words();
     put_texels(
         out,
-        data1.len() / 2,
+        data1.num_texels,
         |n|
-            requires { (2 * n + 2 ≤ length data1.now) × Paint.Tabled Words.low_word lows × Paint.Tabled Words.high_word highs }
-            ensures { result ≡ Texels.format7 data1.entry.now n }
-        { direct_by(&lows, &highs, data1[2 * n], data1[2 * n + 1]) },
+            requires { (2 * n + 2 ≤ length bytes.now) × Paint.Tabled Words.low_word lows × Paint.Tabled Words.high_word highs }
+            ensures { result ≡ Texels.format7 bytes.entry.now n }
+        { direct_by(&lows, &highs, bytes[2 * n], bytes[2 * n + 1]) },
     );
 }
 
-/// Direct colour texture: 16-bit colours, no palette. Each two bytes of the data are a texel. The tables are worth their making from some thousand texels on.
-pub fn decode_format7(out: &mut [u8], data1: &[u8])
-    requires { 4 * (length data1.now / 2) ≤ length out.old }
-    ensures { out.new ≡ Paint.painted (Texels.format7 data1.now) (length data1.now / 2) out.old }
+/// Direct colour texture: 16-bit colours, no palette. The tables are worth their making from some thousand texels on.
+pub fn decode_format7(out: &mut [u8], data1: FirstData<16>)
+    requires { 4 * data1.num_texels ≤ length out.old }
+    ensures { out.new ≡ Paint.painted (Texels.format7 data1.entry.bytes.now) data1.entry.num_texels out.old }
 {
-    if data1.len() < 8192 {
+    if data1.num_texels < 4096 {
         decode_small_format7(out, data1)
     } else {
         decode_large_format7(out, data1)

@@ -1,5 +1,5 @@
 -- The laws of a palette written out as a table of texels, and of the texels that are taken from it. Assumes nothing.
-use Prim.Native.Nat.{ℕ, zero, suc, ◌+◌, ◌/◌, ◌%◌, ◌^◌, ◌≤◌, ◌<◌}
+use Prim.Native.Nat.{ℕ, zero, suc, ◌+◌, ◌*◌, ◌/◌, ◌%◌, ◌^◌, ◌≤◌, ◌<◌}
 use mathlib.Core.Path.{◌≡◌, refl, sym, ◌∙◌}
 use mathlib.Core.Bool.{Bool, true, false}
 use mathlib.Core.List.{List}
@@ -13,9 +13,10 @@ use Rattle.std.specs.Fn.{Mut, Called}
 use Rattle.std.specs.Array.{IsFromFnResultFrom, IsFromFnResult}
 use Rattle.texels.specs.Texels.{pixel, palette_color, texel_bits, alpha3, a3i5, indexed, formats2to4, a5i3}
 use Rattle.paint.proofs.Quads.{painted_same}
-use Rattle.paint.specs.Paint.{painted, with_alpha, pixel_at, indexed_texel, TableOf, Tabled, TexelTable, IndexedFits}
+use Rattle.paint.specs.Paint.{painted, with_alpha, pixel_at, indexed_texel, TableOf, Tabled, TexelTable, AreIndices}
 use Rattle.texels.specs.Index.{IndexThere}
 use Rattle.texels.proofs.Index.{row_below, texel_lt}
+use Rattle.texels.proofs.Texels.{texel_byte}
 
 -- a table of what a closure that stays as it is may give for each number
 module _ {F A : Type 0} (none : A) (made : ℕ → A → Type 0) (n : ℕ) (g : Mut F (ℕ × Unit {0}) A) (f : F)
@@ -50,12 +51,12 @@ pub painted_by_table : (bits : ℕ) (texels : List ℕ) (table : List (List ℕ)
 painted_by_table bits texels table clear0 pal p count size entry t e =
     painted_same _ _ entry (λ i. indexed_texel_lem bits texels table i clear0 pal p (rw e at t)) refl
 
-pub index_there : (bits count length1 output n : ℕ) → IndexedFits bits count length1 output → n < count → IndexThere bits n length1
-index_there bits count length1 output n f h = record {
-  some = f.some;
-  byte = f.byte;
-  small = omega arith;
-  there = omega (arith, row_below bits n count h);
+pub index_there : (bits count length1 n : ℕ) → AreIndices bits count → count * bits ≤ 8 * length1 → n < count → IndexThere bits n length1
+index_there bits count length1 n a there h = record {
+  some = a.some;
+  byte = a.byte;
+  small = omega (arith, a.small);
+  there = omega (arith, row_below bits n count h, a.some);
 }
 
 -- a table of what a rule gives for each byte, the first i of them
@@ -81,8 +82,8 @@ module _ (rule : ℕ → ℕ) where
 
 -- a texel that is its byte's, from a table of the texels of all bytes
 pub byte_texel : (texel : ℕ → List ℕ) {table : List (List ℕ)} → TexelTable texel 256 table → (texels : List ℕ) (n : ℕ) → get_or texels n 0 < 256
-    → texel (get_or texels n 0) ≡ pixel_at table (get_or texels n 0)
-byte_texel texel t texels n byte = sym (t.at (get_or texels n 0) byte)
+    → texel (get_or texels n 0) ≡ indexed_texel 8 texels table n
+byte_texel texel t texels n byte = sym (rw (← texel_byte texels n byte) (t.at (get_or texels n 0) byte))
 
 -- formats 1 and 6: a texel's colour is in the table of its palette
 other_alpha : (color a : ℕ) → with_alpha (pixel color 31) a ≡ pixel color a

@@ -1,5 +1,5 @@
 -- Texels in order, written to an output, and tables of them. Assumes nothing.
-use Rattle.std.specs.Prelude.{ℕ, ◌*◌, ◌^◌, ◌≤◌, ◌<◌, ◌≡◌, List, [], ◌∷◌, ◌++◌, length, drop, get_or}
+use Rattle.std.specs.Prelude.{ℕ, ◌*◌, ◌^◌, ◌≤◌, ◌<◌, ◌≡◌, List, [], ◌∷◌, ◌++◌, length, drop, get_or, slice_index}
 use Rattle.output.specs.Output.{pieces}
 use Rattle.texels.specs.Texels.{widen, texel_bits}
 
@@ -17,6 +17,10 @@ pub record Paints (post : ℕ → List ℕ → Type 0) (count : ℕ) (entry exit
 -- What may be made for each number below count is the texel that f has for it.
 abbrev pub Makes : (post : ℕ → List ℕ → Type 0) (count : ℕ) (f : ℕ → List ℕ) → Type 0
 Makes post count f = (n : ℕ) (made : List ℕ) → n < count → post n made → made ≡ f n
+
+-- The same of what may be made of each of the first count bytes.
+abbrev pub MakesOf : (post : ℕ → List ℕ → Type 0) (bytes : List ℕ) (count : ℕ) (f : ℕ → List ℕ) → Type 0
+MakesOf post bytes count f = Makes (λ n made. let b = slice_index bytes n in (b < 256) × post b made) count f
 
 -- A texel's colour with alpha a.
 abbrev pub with_alpha : (pixel : List ℕ) (a : ℕ) → List ℕ
@@ -43,9 +47,8 @@ Tabled rule table = TableOf 0 rule 256 table
 abbrev pub TexelTable : (rule : ℕ → List ℕ) (count : ℕ) (table : List (List ℕ)) → Type 0
 TexelTable rule count table = TableOf [] rule count table
 
-pub record IndexedFits (bits count length1 output : ℕ) : Type 0 where
+-- Texels of so many bits are indices of a colour, and so few that a number of 64 bits counts their bits.
+pub record AreIndices (bits count : ℕ) : Type 0 where
   pub some : 0 < bits
   pub byte : bits ≤ 8
   pub small : count < 2 ^ 32
-  pub there : count * bits ≤ 8 * length1
-  pub room : 4 * count ≤ output

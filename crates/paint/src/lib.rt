@@ -8,6 +8,9 @@ ghost use Rattle.texels.specs.Index as Index;
 ghost use Rattle.texels.specs.Texels as Texels;
 ghost use Rattle.paint.specs.Paint as Paint;
 
+pub mod first_data;
+
+use first_data::FirstData;
 use std::array;
 use texels::{Colors, Level, Palette, a3_to_a5, extend_5bit_to_8bit, index_at};
 
@@ -52,22 +55,20 @@ fn texel_table<const N: usize>(colors: Colors) -> [[u8; 4]; N]
 
 // Writes the texels whose colour indices the data has, of BITS bits each, as the table has them.
 #[tactic(auto, using(texels::proofs::Index::texel_lt, crate::proofs::Tables::index_there))]
-fn put_indexed<const BITS: usize>(
-    out: &mut [u8],
-    num_texels: usize,
-    data1: &[u8],
-    table: &[[u8; 4]],
-)
-    requires { Paint.IndexedFits BITS num_texels (length data1.now) (length out.old) × (2 ^ BITS ≤ length table.now) }
-    ensures { out.new ≡ Paint.painted (Paint.indexed_texel BITS data1.now table.now) num_texels out.old }
+fn put_indexed<const BITS: usize>(out: &mut [u8], data1: FirstData<BITS>, table: &[[u8; 4]])
+    requires indices { Paint.AreIndices BITS data1.num_texels }
+    requires room { 4 * data1.num_texels ≤ length out.old }
+    requires all { 2 ^ BITS ≤ length table.now }
+    ensures { out.new ≡ Paint.painted (Paint.indexed_texel BITS data1.entry.bytes.now table.now) data1.entry.num_texels out.old }
 {
+    let bytes = data1.bytes;
     put_texels(
         out,
-        num_texels,
+        data1.num_texels,
         |n|
-            requires { Index.IndexThere BITS n (length data1.now) × (2 ^ BITS ≤ length table.now) }
-            ensures { result ≡ Paint.indexed_texel BITS data1.entry.now table.entry.now n }
-        { table[usize::from(index_at(data1, BITS, n))] },
+            requires { Index.IndexThere BITS n (length bytes.now) × (2 ^ BITS ≤ length table.now) }
+            ensures { result ≡ Paint.indexed_texel BITS bytes.entry.now table.entry.now n }
+        { table[usize::from(index_at(bytes, BITS, n))] },
     );
 }
 
@@ -75,56 +76,60 @@ fn put_indexed<const BITS: usize>(
 #[tactic(auto, using(crate::proofs::Tables::painted_by_table))]
 fn decode_by_table<const BITS: usize, const N: usize>(
     out: &mut [u8],
-    num_texels: usize,
-    data1: &[u8],
+    data1: FirstData<BITS>,
     colors: Colors,
 )
-    requires { Paint.IndexedFits BITS num_texels (length data1.now) (length out.old) × (N ≡ 2 ^ BITS) × (N ≤ 256) }
-    ensures { out.new ≡ Paint.painted (Texels.formats2to4 BITS colors.entry.clear0 data1.now colors.entry.palette.block.now colors.entry.palette.off) num_texels out.old }
+    requires indices { Paint.AreIndices BITS data1.num_texels }
+    requires room { 4 * data1.num_texels ≤ length out.old }
+    requires all { (N ≡ 2 ^ BITS) × (N ≤ 256) }
+    ensures { out.new ≡ Paint.painted (Texels.formats2to4 BITS colors.entry.clear0 data1.entry.bytes.now colors.entry.palette.block.now colors.entry.palette.off) data1.entry.num_texels out.old }
 {
     let table: [[u8; 4]; N] = texel_table(colors);
-    put_indexed::<BITS>(out, num_texels, data1, &table);
+    put_indexed::<BITS>(out, data1, &table);
 }
 
 /// 4-colour palette texture.
-pub fn decode_format2(out: &mut [u8], num_texels: usize, data1: &[u8], colors: Colors)
-    requires { Paint.IndexedFits 2 num_texels (length data1.now) (length out.old) }
-    ensures { out.new ≡ Paint.painted (Texels.formats2to4 2 colors.entry.clear0 data1.now colors.entry.palette.block.now colors.entry.palette.off) num_texels out.old }
+pub fn decode_format2(out: &mut [u8], data1: FirstData<2>, colors: Colors)
+    requires small { data1.num_texels < 2 ^ 32 }
+    requires room { 4 * data1.num_texels ≤ length out.old }
+    ensures { out.new ≡ Paint.painted (Texels.formats2to4 2 colors.entry.clear0 data1.entry.bytes.now colors.entry.palette.block.now colors.entry.palette.off) data1.entry.num_texels out.old }
 {
-    decode_by_table::<2, 4>(out, num_texels, data1, colors)
+    decode_by_table::<2, 4>(out, data1, colors)
 }
 
 /// 16-colour palette texture.
-pub fn decode_format3(out: &mut [u8], num_texels: usize, data1: &[u8], colors: Colors)
-    requires { Paint.IndexedFits 4 num_texels (length data1.now) (length out.old) }
-    ensures { out.new ≡ Paint.painted (Texels.formats2to4 4 colors.entry.clear0 data1.now colors.entry.palette.block.now colors.entry.palette.off) num_texels out.old }
+pub fn decode_format3(out: &mut [u8], data1: FirstData<4>, colors: Colors)
+    requires small { data1.num_texels < 2 ^ 32 }
+    requires room { 4 * data1.num_texels ≤ length out.old }
+    ensures { out.new ≡ Paint.painted (Texels.formats2to4 4 colors.entry.clear0 data1.entry.bytes.now colors.entry.palette.block.now colors.entry.palette.off) data1.entry.num_texels out.old }
 {
-    decode_by_table::<4, 16>(out, num_texels, data1, colors)
+    decode_by_table::<4, 16>(out, data1, colors)
 }
 
-// Writes a texel for each byte of the data, as the closure makes it by the byte.
-fn put_bytes<F: Fn(u8) -> [u8; 4]>(out: &mut [u8], data1: &[u8], texel: F)
-    requires room { 4 * length data1.now ≤ length out.old }
+// Writes the texels of the data's first bytes, each as the closure makes it by its byte.
+fn put_bytes<F: Fn(u8) -> [u8; 4]>(out: &mut [u8], data1: FirstData<8>, texel: F)
+    requires room { 4 * data1.num_texels ≤ length out.old }
     requires callable { F.IsAlwaysCallable texel }
-    ensures { (f : ℕ → List ℕ) → Paint.Makes (λ n. F.post texel (slice_index data1.now n)) (length data1.now) f → out.new ≡ Paint.painted f (length data1.now) out.old }
+    ensures { (f : ℕ → List ℕ) → Paint.MakesOf (F.post texel) data1.entry.bytes.now data1.entry.num_texels f → out.new ≡ Paint.painted f data1.entry.num_texels out.old }
 {
+    let bytes = data1.bytes;
     put_texels(
         out,
-        data1.len(),
+        data1.num_texels,
         |n|
-            requires { (n < length data1.now) × F.IsAlwaysCallable texel }
-            ensures { F.post texel (slice_index data1.entry.now n) result }
-        { texel(data1[n]) },
+            requires { (n < length bytes.now) × F.IsAlwaysCallable texel }
+            ensures { (slice_index bytes.entry.now n < 256) × F.post texel (slice_index bytes.entry.now n) result }
+        { texel(bytes[n]) },
     );
 }
 
-// The same, by a table of the texels of all bytes where that is worth its making: where there are more texels than bytes.
-fn decode_bytes<F: Fn(u8) -> [u8; 4]>(out: &mut [u8], data1: &[u8], texel: F)
-    requires room { 4 * length data1.now ≤ length out.old }
+// The same, by a table of the texels of all 256 bytes where that is worth its making: from 512 texels on.
+fn decode_bytes<F: Fn(u8) -> [u8; 4]>(out: &mut [u8], data1: FirstData<8>, texel: F)
+    requires room { 4 * data1.num_texels ≤ length out.old }
     requires callable { F.IsAlwaysCallable texel }
-    ensures { (f : ℕ → List ℕ) → Paint.Makes (λ n. F.post texel (slice_index data1.now n)) (length data1.now) f → out.new ≡ Paint.painted f (length data1.now) out.old }
+    ensures { (f : ℕ → List ℕ) → Paint.MakesOf (F.post texel) data1.entry.bytes.now data1.entry.num_texels f → out.new ≡ Paint.painted f data1.entry.num_texels out.old }
 {
-    if data1.len() < 512 {
+    if data1.num_texels < 512 {
         put_bytes(out, data1, texel);
     } else {
         let table: [[u8; 4]; 256] = array::from_fn(
@@ -151,11 +156,11 @@ fn with_alpha(pixel: [u8; 4], a5: Level) -> [u8; 4]
     [red, green, blue, extend_5bit_to_8bit(a5)]
 }
 
-/// A3I5 translucent texture: 3-bit alpha, 5-bit colour index. Each byte of the data is a texel.
+/// A3I5 translucent texture: 3-bit alpha, 5-bit colour index.
 #[tactic(auto, using(crate::proofs::Tables::a3i5_texel), unfolding(texels::specs::Texels::format1))]
-pub fn decode_format1(out: &mut [u8], data1: &[u8], palette: Palette)
-    requires { 4 * length data1.now ≤ length out.old }
-    ensures { out.new ≡ Paint.painted (Texels.format1 data1.now palette.entry.block.now palette.entry.off) (length data1.now) out.old }
+pub fn decode_format1(out: &mut [u8], data1: FirstData<8>, palette: Palette)
+    requires { 4 * data1.num_texels ≤ length out.old }
+    ensures { out.new ≡ Paint.painted (Texels.format1 data1.entry.bytes.now palette.entry.block.now palette.entry.off) data1.entry.num_texels out.old }
 {
     let table: [[u8; 4]; 32] = texel_table(Colors {
         palette,
@@ -170,11 +175,11 @@ pub fn decode_format1(out: &mut [u8], data1: &[u8], palette: Palette)
     )
 }
 
-/// 256-colour palette texture. Each byte of the data is a texel.
+/// 256-colour palette texture.
 #[tactic(auto, using(texels::proofs::Texels::texel_byte), unfolding(texels::specs::Texels::formats2to4))]
-pub fn decode_format4(out: &mut [u8], data1: &[u8], colors: Colors)
-    requires { 4 * length data1.now ≤ length out.old }
-    ensures { out.new ≡ Paint.painted (Texels.formats2to4 8 colors.entry.clear0 data1.now colors.entry.palette.block.now colors.entry.palette.off) (length data1.now) out.old }
+pub fn decode_format4(out: &mut [u8], data1: FirstData<8>, colors: Colors)
+    requires { 4 * data1.num_texels ≤ length out.old }
+    ensures { out.new ≡ Paint.painted (Texels.formats2to4 8 colors.entry.clear0 data1.entry.bytes.now colors.entry.palette.block.now colors.entry.palette.off) data1.entry.num_texels out.old }
 {
     decode_bytes(
         out,
@@ -185,11 +190,11 @@ pub fn decode_format4(out: &mut [u8], data1: &[u8], colors: Colors)
     )
 }
 
-/// A5I3 translucent texture: 5-bit alpha, 3-bit colour index. Each byte of the data is a texel.
+/// A5I3 translucent texture: 5-bit alpha, 3-bit colour index.
 #[tactic(auto, using(crate::proofs::Tables::a5i3_texel), unfolding(texels::specs::Texels::format6))]
-pub fn decode_format6(out: &mut [u8], data1: &[u8], palette: Palette)
-    requires { 4 * length data1.now ≤ length out.old }
-    ensures { out.new ≡ Paint.painted (Texels.format6 data1.now palette.entry.block.now palette.entry.off) (length data1.now) out.old }
+pub fn decode_format6(out: &mut [u8], data1: FirstData<8>, palette: Palette)
+    requires { 4 * data1.num_texels ≤ length out.old }
+    ensures { out.new ≡ Paint.painted (Texels.format6 data1.entry.bytes.now palette.entry.block.now palette.entry.off) data1.entry.num_texels out.old }
 {
     let table: [[u8; 4]; 8] = texel_table(Colors {
         palette,

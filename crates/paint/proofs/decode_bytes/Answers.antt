@@ -10,4 +10,4 @@ returns-else-data1-lt512 g c = λ f makes.
     let post = goal.F-post g c.args.texel in
     let made : (k : ℕ) → k < 256 → post k (pixel_at c.from_fn-table.result k) =
     made_of _ post _ _ _ (λ i x later h call. search rules) _ c.from_fn-table.ensures.items in
-    c.put_bytes-else-data1-lt512.ensures f (λ n x h is. makes n x h (rw is (made _ (c.type_inv.data1 n).fits)))
+    c.put_bytes-else-data1-lt512.ensures f (λ n x h (byte, is). makes n x h (byte, rw is (made _ byte)))
