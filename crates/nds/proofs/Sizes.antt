@@ -5,9 +5,11 @@ use mathlib.Core.List.{[], ◌∷◌}
 use mathlib.Core.Bool.{Bool, true, false}
 use native.Mathlib.Omega.{arith}
 use native.Mathlib.Nat.{le_of_lt, lt_of_le_of_lt, mul-le-mul, mul-le-mul_left}
-use lib.Dec.{lit<, eqb}
+use lib.Dec.{lit<, eqb, ltb}
 use lib.Pow.{pow_mono, shl_exact}
+use borrow.Author.Tests.{ltb-true, ltb-false}
 use Rattle.std.proofs.Common.{rules}
+use Rattle.std.proofs.lemmas.List.{get_or_past}
 use Rattle.std.proofs.lemmas.List.Elements.{All-get_or}
 use Rattle.nds.specs.Params.{width, height, format}
 use Rattle.nds.specs.Formats.{bits_per_texel, data_length, second_length}
@@ -40,15 +42,19 @@ module _ {a b : ℕ} (ha : a ≤ 1024) (hb : b ≤ 1024) where
 -- for functions that multiply a word's sizes
 pub ruleset areas = (width_le, height_le, area_lt, bits_lt)
 
--- the bits of a texel fit a byte
-bits_small : (w : ℕ) → bits_per_texel (format w) < 2 ^ 8
-bits_small w = All-get_or (λ b. b < 2 ^ 8) (0 ∷ 8 ∷ 2 ∷ 4 ∷ 8 ∷ 2 ∷ 8 ∷ 16 ∷ []) (format w) 0 (omega arith) (search rules)
+-- the bits of a texel fit a byte, of any format's number
+bits_small : (f : ℕ) → bits_per_texel f < 2 ^ 8
+bits_small f = go (ltb f 8) refl
+  where
+    go : (t : Bool) → ltb f 8 ≡ t → bits_per_texel f < 2 ^ 8
+    go true e = All-get_or (λ b. b < 2 ^ 8) (0 ∷ 8 ∷ 2 ∷ 4 ∷ 8 ∷ 2 ∷ 8 ∷ 16 ∷ []) f 0 (ltb-true f 8 e) (search rules)
+    go false e = rw (get_or_past {X = ℕ} (0 ∷ 8 ∷ 2 ∷ 4 ∷ 8 ∷ 2 ∷ 8 ∷ 16 ∷ []) f 0 (ltb-false f 8 e)) (lit< tt)
 
 -- the lengths of a word's data
 module _ (w : ℕ) where
   pub data_length_lt : data_length w < 2 ^ 32
   unfolding data_length
-  data_length_lt = omega (arith, bits_lt (width_le w) (height_le w) (bits_small w))
+  data_length_lt = omega (arith, bits_lt (width_le w) (height_le w) (bits_small (format w)))
 
   pub second_length_lt : second_length w < 2 ^ 32
   unfolding second_length

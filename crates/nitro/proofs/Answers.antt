@@ -268,12 +268,6 @@ module _ (b : List ℕ) {l : Layout} (laid : LaidOut b l) where
 
 -- texture n and palette n, by a layout that has them, or where there is none
 module _ (n : ℕ) (b : List ℕ) where
-  pub texture_below : {l : Layout} → result l ≡ layout_with kinds.Texture n b (run read_tex b) → n < l.textures
-  texture_below e = (entry_laid kinds.Texture n b e).1
-
-  pub palette_below : {l : Layout} → result l ≡ layout_with kinds.Palette n b (run read_tex b) → n < l.palettes
-  palette_below e = (entry_laid kinds.Palette n b e).1
-
   pub texture_refused : (r : Refusal) → refusal_outcome r ≡ layout_with kinds.Texture n b (run read_tex b) → refusal_outcome r ≡ texture_of n (run read_tex b)
   unfolding texture_of
   texture_refused r e = no_texture_lem n b _ r e

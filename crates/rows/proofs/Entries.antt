@@ -25,9 +25,11 @@ use Rattle.scripts.specs.Script.{whole, run}
 use Rattle.info_block.specs.InfoBlock.{NameList, name_at, list_length}
 use Rattle.reading.specs.Tex.{Texture, Contents, header_of, read_tex}
 use Rattle.reading.specs.Layouts.{layout_of, layout_answer}
+use Rattle.reading.proofs.Blocks.{list_within}
 use Rattle.rows.specs.ByLayout.{row_length, row, rows_by, texture_row, palette_row}
 use Rattle.rows.specs.Rows as Rows
 use Rattle.rows.specs.Rows.{place_of, Inside, name_place, data1_place, data2_place, rows_in, rows_of}
+use Rattle.layout.specs.Positions.{list_pos, count_of}
 use Rattle.layout.specs.declared.Header.{Header}
 use Rattle.layout.specs.declared.Layout.{Layout}
 use Rattle.scripts.proofs.Runs.{whole_outcome, ended, follows_self, refused}
@@ -89,19 +91,27 @@ rows_few kind c e = rw e (entries_few kind c)
 -- for the function that writes them
 pub ruleset writes_rows = (rows_few, rows_length, outcome_there, output_there, outcome_short, output_short)
 
+-- of the layout of a block that was read: the list lies within the block, and its rows are the reading's
+pub record RowsFound (kind : Kind) (b : List ℕ) (l : Layout) : Type 0 where
+  pub within : list_pos kind l.header + list_length kind (count_of kind l) ≤ length b
+  pub made : result (rows_by kind b l) ≡ rows_of kind b (run read_tex b)
+
 -- what the call makes, by the layout of a block that was read
 module _ (kind : Kind) (b : List ℕ) where
   pub rows_refused : (r : Refusal) → refusal_outcome r ≡ layout_answer b (run read_tex b) → refusal_outcome r ≡ rows_of kind b (run read_tex b)
   unfolding layout_answer rows_of
   rows_refused r e = refused _ _ (follows_self _) _ _ r e
 
-  pub rows_found : {l : Layout} → result l ≡ layout_answer b (run read_tex b) → result (rows_by kind b l) ≡ rows_of kind b (run read_tex b)
+  pub rows_made : {l : Layout} → result l ≡ layout_answer b (run read_tex b) → result (rows_by kind b l) ≡ rows_of kind b (run read_tex b)
   unfolding layout_answer rows_of
-  rows_found e =
+  rows_made e =
       let o = ended (run read_tex b) (layout_of b) e in
       rw o.gives (ap result (rows_laid b o.is kind) ∙ whole_outcome _ o.is)
 
-pub ruleset makes_rows = (passed_on, rows_refused, rows_found)
+  pub rows_found : {l : Layout} → result l ≡ layout_answer b (run read_tex b) → RowsFound kind b l
+  rows_found e = record { within = list_within kind b (record { is = e }); made = rows_made e }
+
+pub ruleset makes_rows = (passed_on, rows_refused, rows_made)
 
 -- a part that was taken, by its place
 pub place_inside : (b : List ℕ) (p n : ℕ) → Inside b (taken_part p n b) (place_of p (taken_part p n b))
