@@ -8,7 +8,7 @@ ghost use Rattle.std.specs.Prelude.{◌<◌, length, IfSome};
 use block_report::{palettes, part, refused, textures};
 use name_report::texts;
 use nitro::tex;
-use report::{input, number, numbers, text};
+use report::{STDIN_FILENO, number, text};
 use rows_report::all_rows;
 
 // Prints every answer for a block.
@@ -17,7 +17,8 @@ fn show(block: &[u8]) {
     number(block.len() as u64);
     text(b"\nreading");
     tex::read_tex(block).map_or_else(refused, |counts| {
-        numbers(&[counts.textures, counts.palettes])
+        number(counts.textures as u64);
+        number(counts.palettes as u64);
     });
     text(b"\npal_block");
     part(tex::pal_block(block));
@@ -52,5 +53,6 @@ fn show_all(input: &[u8]) {
 // Reads the input, and shows its blocks.
 fn main() {
     let mut buffer = io::large_buffer();
-    show_all(input(&mut buffer));
+    let n = io::read_full(STDIN_FILENO, &mut buffer);
+    show_all(&buffer[..n]);
 }

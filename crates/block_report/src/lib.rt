@@ -4,7 +4,7 @@
 
 use errors::Refusal;
 use nitro::tex::{self, PaletteRecord, TextureRecord};
-use report::{hex, number, text, word};
+use report::{STDOUT_FILENO, number, text};
 
 /// Prints a refusal's number, and for a short block what is returned beside it.
 pub fn refused(refusal: Refusal) {
@@ -25,7 +25,7 @@ pub fn part(bytes: &[u8]) {
     number(bytes.len() as u64);
     text(b" ");
     for b in bytes {
-        hex(u64::from(*b), 2);
+        io::print_hex(STDOUT_FILENO, u64::from(*b), 2);
     }
 }
 
@@ -40,9 +40,14 @@ fn record<T: Copy, F: FnOnce(T)>(answer: Result<T, Refusal>, none: T, fields: F)
 // Prints a texture's record.
 fn texture(record: TextureRecord) {
     number(u64::from(record.params.0));
-    word(record.wrap_s.word());
-    word(record.wrap_t.word());
-    word(record.alpha.word());
+    for word in [
+        record.wrap_s.word(),
+        record.wrap_t.word(),
+        record.alpha.word(),
+    ] {
+        text(b" ");
+        text(word);
+    }
     part(&record.name.0);
 }
 

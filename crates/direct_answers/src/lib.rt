@@ -15,7 +15,7 @@ pub fn direct_agrees(texture: Texture, stored: &[u8]) -> bool
     ensures { IsTrue result ↔ (with_picture [] (decoded (sources texture.entry.params.0 texture.entry.data1.now texture.entry.data2.now texture.entry.palette texture.entry.pal_block.now)) ≡ stored.now) }
 {
     let mut answer = Answer::new();
-    // The closure captures the parts: of a call of one that captures a struct of references nothing would be known.
+    // The closure captures the parts: with the texture in their place it proves, and what `put_picture` does with it does not.
     let Texture {
         params,
         data1,

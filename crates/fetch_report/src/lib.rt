@@ -2,11 +2,11 @@
 
 #![tactic(auto)]
 
-use cases::{Sum, filled};
-use report::{counted, number, summed, text};
+use cases::Sum;
+use report::{counted, number, text};
 use stream::fetch_picture::fetch_picture;
 use stream::fetch_tex::fetch_tex;
-use stream_report::{ROOM, Request};
+use stream_report::Request;
 use stream_sums::reading;
 
 // Prints how many answers were short.
@@ -29,13 +29,15 @@ fn fetched_picture(block: &[u8], request: Request, out: &mut [u8]) {
     short_answers(fetched.short_answers);
     let mut sum = Sum::new();
     sum.add_all(out);
-    summed(sum.0);
+    text(b" |");
+    number(sum.0);
+    text(b"\n");
 }
 
-/// A line of fetching. The output is filled.
-pub fn fetching(block: &[u8], request: Request) {
+/// A line of fetching. The output is the first bytes of out, as many as the request says; where it says more than there are, no picture is fetched.
+pub fn fetching(block: &[u8], request: Request, out: &mut [u8]) {
     fetched_tex(block);
-    if let Some(out) = filled::<ROOM>().get_mut(..request.room) {
+    if let Some(out) = out.get_mut(..request.room) {
         fetched_picture(block, request, out);
     }
 }

@@ -16,18 +16,26 @@
 
 #![tactic(auto)]
 
-use cases::{Case, each_case};
+use cases::{Case, each_case, filled};
 use listing_report::listed_to;
-use report::{input, text};
+use report::{STDIN_FILENO, text};
 
-// Shows a case.
+// The most bytes that an output has.
+const ROOM: usize = 22400;
+
+// Shows a case, with an output that is filled.
 fn show(case: Case) {
     text(case.named(0));
-    listed_to(case.named(8), case.field(16) as usize);
+    listed_to(
+        case.named(8),
+        &mut filled::<ROOM>(),
+        case.field(16) as usize,
+    );
 }
 
 // Reads the input, and shows its cases. Some of them have more than the 65,536 bytes that `io::large_buffer` has.
 fn main() {
     let mut buffer = [0; 196608];
-    each_case(input(&mut buffer), 20, show);
+    let n = io::read_full(STDIN_FILENO, &mut buffer);
+    each_case(&buffer[..n], 20, show);
 }

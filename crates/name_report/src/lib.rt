@@ -5,7 +5,7 @@
 use block_report::counted;
 use errors::Refusal;
 use name::Name;
-use report::{text, word};
+use report::text;
 
 // Prints what a name call answers to an output, and all of the output.
 fn written<const N: usize, F: FnOnce(&mut [u8]) -> Result<usize, Refusal>>(
@@ -17,7 +17,8 @@ fn written<const N: usize, F: FnOnce(&mut [u8]) -> Result<usize, Refusal>>(
 {
     text(title);
     counted(call(&mut out));
-    word(&out);
+    text(b" ");
+    text(&out);
     text(b"\n");
 }
 

@@ -25,7 +25,7 @@ use decode::picture::picture;
 use errors::Refusal;
 use nds::texture_params::TextureParams;
 use picture_report::written;
-use report::{input, text};
+use report::{STDIN_FILENO, text};
 use told::choice_of;
 
 // The most bytes that an output has.
@@ -89,5 +89,6 @@ fn show(case: Case) {
 // Reads the input, and runs its cases.
 fn main() {
     let mut buffer = io::large_buffer();
-    each_case(input(&mut buffer), 52, show);
+    let n = io::read_full(STDIN_FILENO, &mut buffer);
+    each_case(&buffer[..n], 52, show);
 }

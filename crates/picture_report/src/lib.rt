@@ -4,7 +4,7 @@
 
 use cursor::part_at;
 use errors::Refusal;
-use report::{number, refused_as, text};
+use report::{number, text};
 
 // The places of texels 0 to 3, 7, 8, 36 and 63, which every picture has.
 const TEXELS: [usize; 8] = [0, 4, 8, 12, 28, 32, 144, 252];
@@ -30,7 +30,11 @@ pub fn written(answer: Result<usize, Refusal>, out: &[u8]) {
             text(b" ok");
             number(n as u64);
         }
-        Err(refusal) => refused_as(b" refused", refusal),
+        Err(refusal) => {
+            text(b" refused");
+            number(refusal.number() as u64);
+            number(refusal.returned() as u64);
+        }
     }
     number(checksum(out));
     if answer.is_ok() {

@@ -1,4 +1,4 @@
-//! Reading the list of cases that the program `replay` runs, from standard input: bytes, arrays of bytes, and parts behind their length.
+//! Reading the list of cases that the program `replay` runs, from standard input: bytes, and parts behind their length.
 
 #![tactic(auto)]
 
@@ -26,11 +26,17 @@ pub fn next_bytes<'a>(buffer: &'a mut [u8], len: usize) -> Result<&'a [u8], Brok
     Ok(bytes)
 }
 
-/// The list's next N bytes.
-pub fn next_array<const N: usize>() -> Result<[u8; N], Broken> {
+// The list's next N bytes.
+fn next_array<const N: usize>() -> Result<[u8; N], Broken> {
     let mut bytes = [0; N];
     next_bytes(&mut bytes, N)?;
     Ok(bytes)
+}
+
+/// The list's next byte.
+pub fn next_u8() -> Result<u8, Broken> {
+    let [byte] = next_array::<1>()?;
+    Ok(byte)
 }
 
 /// Reads a length, and as many bytes to the start of the buffer.

@@ -6,17 +6,19 @@ use answer_bytes::MAX_ANSWER;
 use decode::decode_texture::Texture;
 use direct_answers::direct_agrees;
 use nds::texture_params::TextureParams;
-use replay_cases::{Broken, MAX_PART, next_array, next_bytes, next_part};
+use replay_cases::{Broken, MAX_PART, next_bytes, next_part, next_u8};
 
 // The list's next number.
 fn next_u32() -> Result<u32, Broken> {
-    Ok(u32::from_le_bytes(next_array()?))
+    let mut bytes = [0; 4];
+    next_bytes(&mut bytes, 4)?;
+    Ok(u32::from_le_bytes(bytes))
 }
 
 /// Whether a case that is a direct decoding agrees.
 pub fn run_direct() -> Result<bool, Broken> {
     let params = TextureParams(next_u32()?);
-    let [has_palette] = next_array::<1>()?;
+    let has_palette = next_u8()?;
     let palette_off = next_u32()?;
     let data1_len = next_u32()?;
     let data2_len = next_u32()?;

@@ -4,14 +4,16 @@
 
 use block_report::counted;
 use errors::Kind;
-use report::{numbers, text};
+use report::{number, text};
 
 // Prints what the call for all rows of a kind answers to an output, and all of the output.
 fn rows<const N: usize>(block: &[u8], kind: Kind, mut out: [usize; N]) {
     text(b"rows");
     counted(rows::rows(block, kind, &mut out));
     text(b" of");
-    numbers(&out);
+    for n in out {
+        number(n as u64);
+    }
     text(b"\n");
 }
 

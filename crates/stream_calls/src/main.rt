@@ -28,10 +28,10 @@
 
 #![tactic(auto)]
 
-use cases::{Case, each_case};
+use cases::{Case, each_case, filled};
 use fetch_report::fetching;
-use report::{input, text};
-use stream_report::{Request, prefixes};
+use report::{STDIN_FILENO, text};
+use stream_report::{ROOM, Request, prefixes};
 use told::choice_of;
 
 // The records and the picture that a case asks for.
@@ -52,12 +52,13 @@ fn show(case: Case) {
     let request = request_of(case);
     match case.field(0) {
         0 => prefixes(block, case.field(36) as usize, request),
-        _ => fetching(block, request),
+        _ => fetching(block, request, &mut filled::<ROOM>()),
     }
 }
 
 // Reads the input, and shows its cases.
 fn main() {
     let mut buffer = io::large_buffer();
-    each_case(input(&mut buffer), 40, show);
+    let n = io::read_full(STDIN_FILENO, &mut buffer);
+    each_case(&buffer[..n], 40, show);
 }

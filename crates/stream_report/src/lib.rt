@@ -5,7 +5,7 @@
 use cases::{Sum, filled};
 use decode::picture::picture;
 use nitro::tex;
-use report::{counted, decimal, summed, text};
+use report::{counted, decimal, number, text};
 use stream_sums::{add_parts, palette, reading, texture};
 
 /// The most bytes that an output has.
@@ -42,7 +42,9 @@ fn prefix(bytes: &[u8], request: Request) {
     add_parts(&mut sum, bytes, request.texture);
     paint(&mut sum, bytes, request, request.room);
     paint(&mut sum, bytes, request, 12);
-    summed(sum.0);
+    text(b" |");
+    number(sum.0);
+    text(b"\n");
 }
 
 /// A line for each number of bytes from least to the block's length, and for all of them where least is beyond it.

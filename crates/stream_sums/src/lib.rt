@@ -5,13 +5,15 @@
 use cases::Sum;
 use errors::Refusal;
 use nitro::tex::{self, Counts, TextureRecord};
-use report::{answered, numbers};
+use report::{number, refused, text};
 use told::{alpha_number, wrap_number};
 
 /// Prints the answer of a reading.
 pub fn reading(answer: Result<Counts, Refusal>) {
-    answered(answer, |counts| {
-        numbers(&[counts.textures, counts.palettes])
+    answer.map_or_else(refused, |counts| {
+        text(b" | ok");
+        number(counts.textures as u64);
+        number(counts.palettes as u64);
     });
 }
 
@@ -37,14 +39,14 @@ fn add_record(sum: &mut Sum, record: TextureRecord) {
 /// Shows the record call's answer, and adds the record that stands beside it.
 pub fn texture(sum: &mut Sum, block: &[u8], n: usize) {
     let answer = tex::texture(block, n);
-    answered(answer, |_| {});
+    answer.map_or_else(refused, |_| text(b" | ok"));
     add_record(sum, answer.unwrap_or(tex::no_texture()));
 }
 
 /// The same for a palette.
 pub fn palette(sum: &mut Sum, block: &[u8], n: usize) {
     let answer = tex::palette(block, n);
-    answered(answer, |_| {});
+    answer.map_or_else(refused, |_| text(b" | ok"));
     let record = answer.unwrap_or(tex::no_palette());
     sum.add_all(&record.name.0);
     sum.add(u64::from(record.off));

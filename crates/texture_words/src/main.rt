@@ -3,7 +3,7 @@
 #![tactic(auto)]
 
 use nds::texture_params::TextureParams;
-use report::{decimal, hex, text, word};
+use report::{STDOUT_FILENO, decimal, text};
 
 // Document 01's words, each single bit, each format with and without bit 29, each set of repeat and mirror bits, and some of no
 // particular kind.
@@ -94,17 +94,22 @@ fn number(label: &[u8], n: impl Into<u64>) {
     decimal(n.into());
 }
 
-// Writes the line of a word.
+// Writes a label and a word.
+fn word(label: &[u8], w: &[u8]) {
+    text(label);
+    text(w);
+}
+
+// Writes the line of a texture word.
 fn show(params: TextureParams) {
-    hex(u64::from(params.0), 8);
+    io::print_hex(STDOUT_FILENO, u64::from(params.0), 8);
     number(b" offset ", params.offset());
     number(b" repeat ", params.repeat_s());
     number(b" ", params.repeat_t());
     number(b" mirror ", params.mirror_s());
     number(b" ", params.mirror_t());
-    text(b" wrap");
-    word(params.wrap_s().word());
-    word(params.wrap_t().word());
+    word(b" wrap ", params.wrap_s().word());
+    word(b" ", params.wrap_t().word());
     number(b" size ", params.width());
     number(b" ", params.height());
     let format = params.format();
@@ -116,14 +121,13 @@ fn show(params: TextureParams) {
     number(b" palette ", desc.requires_palette);
     number(b" data ", params.byte_len() as u64);
     number(b" ", params.byte_len2() as u64);
-    text(b" alpha");
-    word(params.alpha_type().word());
+    word(b" alpha ", params.alpha_type().word());
     text(b"\n");
 }
 
 // Writes the line of each word.
 fn main() {
-    for word in WORDS {
-        show(TextureParams(word));
+    for n in WORDS {
+        show(TextureParams(n));
     }
 }
