@@ -70,9 +70,15 @@ module _ {text entry : List ℕ} {end : ℕ} {now : List ℕ} (w : Wrote text en
         ∙ rw (take-append_seam, drop-append-add, drop-drop, length-append));
   }
 
+  pub wrote_byte : (b : ℕ) → end < length entry → Wrote (text ++ (b ∷ [])) entry (end + 1) (set now end b)
+  wrote_byte b h = wrote_more (b ∷ []) (omega arith)
+
   -- the text is as many of its bytes as were counted
   pub wrote_text : take end now ≡ text
   wrote_text = rw (w.ends, w.holds) (take-append_seam text _)
+
+  pub wrote_counts : (end ≤ length now) × (end ≡ length (take end now))
+  wrote_counts = (omega (arith, w.fits, w.ends, wrote_length), rw wrote_text w.ends)
 
   -- an output that is full
   pub wrote_all : length entry ≤ end → now ≡ text
@@ -83,6 +89,10 @@ module _ {text entry : List ℕ} {end : ℕ} {now : List ℕ} (w : Wrote text en
   writes_fits =
       let e = le-leb _ _ w.fits in
       record { outcome = rw (e, w.ends); output = rw e w.holds }
+
+-- a text that is written at once
+pub writes_sets : (text entry : List ℕ) → length text ≤ length entry → Writes (result text) entry (result (length text)) (sets entry 0 text)
+writes_sets text entry h = rw zero-add at (writes_fits (wrote_more (wrote_none entry) text (omega (arith, h))))
 
 -- and back: what a call that writes a text answers and leaves where there is room for it
 pub writes_whole : (text entry : List ℕ) {answer : Outcome ℕ} {exit : List ℕ} → length text ≤ length entry → Writes (result text) entry answer exit
