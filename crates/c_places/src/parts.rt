@@ -2,7 +2,6 @@
 ghost use Rattle.std.specs.Prelude.{◌≡◌};
 ghost use Rattle.told.specs.Told as Told;
 
-use layout::Place;
 use places::{locate, pal_place};
 use told::tell_part;
 
@@ -21,7 +20,7 @@ pub extern "C" fn rasclanya_texture_data1(
     ensures len_after { len.new ≡ Told.left len.old Told.len (Told.data1 block.now n) }
     ensures needed_after { needed.new ≡ Told.needed_of (Told.data1 block.now n) }
 {
-    let place = locate(block, n, None).map(|places| places.data1.told());
+    let place = locate(block, n, None).map(|places| places.data1);
     tell_part(place, pos, len, needed)
 }
 
@@ -40,7 +39,7 @@ pub extern "C" fn rasclanya_texture_data2(
     ensures len_after { len.new ≡ Told.left len.old Told.len (Told.data2 block.now n) }
     ensures needed_after { needed.new ≡ Told.needed_of (Told.data2 block.now n) }
 {
-    let place = locate(block, n, None).map(|places| places.data2.told());
+    let place = locate(block, n, None).map(|places| places.data2);
     tell_part(place, pos, len, needed)
 }
 
@@ -58,6 +57,5 @@ pub extern "C" fn rasclanya_pal_block(
     ensures len_after { len.new ≡ Told.left len.old Told.len (Told.pal_block block.now) }
     ensures needed_after { needed.new ≡ Told.needed_of (Told.pal_block block.now) }
 {
-    let place = pal_place(block).map(Place::told);
-    tell_part(place, pos, len, needed)
+    tell_part(pal_place(block), pos, len, needed)
 }

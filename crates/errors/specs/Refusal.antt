@@ -4,7 +4,7 @@ use Rattle.util.specs.Outcome.{Outcome, result, refusal}
 use Rattle.errors.specs.declared.Kind.{Kind}
 use Rattle.errors.specs.declared.Kind.TheVariants.{Texture, Palette}
 use Rattle.errors.specs.declared.Refusal.{Refusal}
-use Rattle.errors.specs.declared.Refusal.TheVariants.{Short, Stamp, Dummy, DatumSize, Number, NoPalette, NoTexels, Output, ShortData, LongInput}
+use Rattle.errors.specs.declared.Refusal.TheVariants.{Short, Stamp, Dummy, DatumSize, Number, NoPalette, NoTexels, Output, ShortData}
 
 -- What a reading finds wrong with a block that is long enough.
 pub data Fault : Type 0 where
@@ -38,7 +38,6 @@ refusal_number NoPalette = 9
 refusal_number NoTexels = 10
 refusal_number Output = 11
 refusal_number ShortData = 12
-refusal_number LongInput = 13
 
 -- The want of a short take; no other row has one.
 abbrev pub refusal_needed : Refusal → Option ℕ
@@ -51,7 +50,6 @@ refusal_needed NoPalette = None
 refusal_needed NoTexels = None
 refusal_needed Output = None
 refusal_needed ShortData = None
-refusal_needed LongInput = None
 
 -- And its value: "take is short" returns the want, and every other row 0.
 abbrev pub refusal_returned : Refusal → ℕ
@@ -64,7 +62,6 @@ refusal_returned NoPalette = 0
 refusal_returned NoTexels = 0
 refusal_returned Output = 0
 refusal_returned ShortData = 0
-refusal_returned LongInput = 0
 
 abbrev pub refusal_outcome : {A : Type 0} → Refusal → Outcome A
 refusal_outcome r = refusal (refusal_number r) (refusal_returned r)

@@ -35,8 +35,6 @@ pub enum Refusal {
     Output,
     /// The texture's data are shorter than its word says.
     ShortData,
-    /// The input of a listing is longer than is read.
-    LongInput,
 }
 
 impl Refusal {
@@ -57,7 +55,6 @@ impl Refusal {
             Refusal::NoTexels => 10,
             Refusal::Output => 11,
             Refusal::ShortData => 12,
-            Refusal::LongInput => 13,
         }
     }
 

@@ -16,6 +16,7 @@ use Rattle.places.specs.Sources.{places_of, pal_place_of}
 use Rattle.nitro.specs.declared.tex.TextureRecord.{TextureRecord}
 use Rattle.nitro.specs.declared.tex.PaletteRecord.{PaletteRecord}
 use Rattle.layout.specs.declared.Place.{Place}
+use Rattle.layout.specs.Positions.{told}
 use Rattle.decode.specs.Pictures.{sources, decoded, picture_of}
 
 -- A number that is told as it is.
@@ -107,6 +108,10 @@ pos place = place.pos
 
 abbrev pub len : Place → ℕ
 len place = place.len
+
+-- Where a part begins as it is told: 0 for one without bytes.
+abbrev pub told_pos : Place → ℕ
+told_pos place = pos (told place)
 
 unfoldable pub data1 : (block : List ℕ) (n : ℕ) → Outcome Place
 data1 block n = do

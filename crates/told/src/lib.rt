@@ -87,7 +87,7 @@ pub fn tell_counts(
     tell(answer, needed)
 }
 
-/// An answer with a part's place.
+/// An answer with a part's place. A part without bytes begins at 0.
 pub fn tell_part(
     answer: Result<Place, Refusal>,
     pos: &mut usize,
@@ -95,12 +95,12 @@ pub fn tell_part(
     needed: &mut usize,
 ) -> u32
     ensures value { result ≡ Told.code_of (result_outcome answer) }
-    ensures pos_after { pos.new ≡ Told.left pos.old Told.pos (result_outcome answer) }
+    ensures pos_after { pos.new ≡ Told.left pos.old Told.told_pos (result_outcome answer) }
     ensures len_after { len.new ≡ Told.left len.old Told.len (result_outcome answer) }
     ensures needed_after { needed.new ≡ Told.needed_of (result_outcome answer) }
 {
     if let Ok(place) = answer {
-        *pos = place.pos;
+        *pos = place.told().pos;
         *len = place.len;
     }
     tell(answer, needed)
