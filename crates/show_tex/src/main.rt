@@ -4,6 +4,9 @@
 
 #![tactic(auto)]
 
+ghost use Rattle.std.specs.Prelude.{◌+◌, ◌≤◌, length, IfSome};
+ghost use Rattle.show.specs.declared.TheConstants.{MAX_BLOCK};
+
 use arguments::{parse_choice, parse_number};
 use show::{MAX_BLOCK, MAX_PAM};
 use std::env::FillError;
@@ -39,7 +42,9 @@ fn has_three_arguments(rt: &impl Env) -> bool {
 }
 
 // An argument, where it is there and fits the text.
-fn argument<'a>(rt: &impl Env, i: usize, text: &'a mut [u8; MAX_ARGUMENT]) -> Option<&'a [u8]> {
+fn argument<'a>(rt: &impl Env, i: usize, text: &'a mut [u8; MAX_ARGUMENT]) -> Option<&'a [u8]>
+    ensures { IfSome result (λ part. length part.now ≤ length text.old) }
+{
     let len = rt.arg(i, text).ok()?;
     Some(&text[..len])
 }
@@ -57,10 +62,13 @@ fn parse_arguments(rt: &impl Env) -> Option<Request> {
 }
 
 // Reads until the input is full, the file ends or a read fails, and returns what was read. One byte more than may be read is enough to know
-// that the file is too long. The room that a copy which fails leaves is not promised to be less than the input, so the difference saturates.
-fn read_file<'a>(file: &mut impl Read, input: &'a mut [u8; MAX_BLOCK + 1]) -> &'a [u8] {
+// that the file is too long, and no more is asked for: behind it a pipe that stays open would be waited for. The room that a copy which fails
+// leaves is not promised to be less than the input, so the difference saturates.
+fn read_file<'a>(file: &mut impl Read, input: &'a mut [u8; MAX_BLOCK + 1]) -> &'a [u8]
+    ensures { length result.now ≤ MAX_BLOCK + 1 }
+{
     let mut room = &mut input[..];
-    let _ = io::copy(file, &mut room);
+    let _ = io::copy(&mut file.take(room.len() as u64), &mut room);
     let left = room.len();
     &input[..input.len().saturating_sub(left)]
 }
