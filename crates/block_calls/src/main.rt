@@ -1,5 +1,5 @@
 //! Writes what the calls of `nitro` and `name` answer for each block of its standard input, a line a call. A block is preceded by its
-//! length, in 4 bytes.
+//! length, in 4 bytes. Behind 1,000 blocks no more are shown.
 
 #![tactic(auto)]
 
@@ -30,7 +30,7 @@ fn show(block: &[u8]) {
         palettes(block, n);
     }
     all_rows(block);
-    texts(tex::texture(block, 0).unwrap_or(tex::no_texture()).name);
+    texts(tex::texture_or_blank(tex::texture(block, 0)).name);
 }
 
 // The input's first block, whose length stands before it, and what is behind it. None where there is no whole block.
@@ -41,10 +41,16 @@ fn first_block(input: &[u8]) -> Option<(&[u8], &[u8])>
     behind.split_at_checked(u32::from_le_bytes(*len) as usize)
 }
 
-// Shows each block of the input.
+// The most blocks that are shown.
+const MAX_BLOCKS: usize = 1000;
+
+// Shows the blocks of the input.
 fn show_all(input: &[u8]) {
     let mut rest = input;
-    while let Some((block, behind)) = first_block(rest) {
+    for _ in 0..MAX_BLOCKS {
+        let Some((block, behind)) = first_block(rest) else {
+            return;
+        };
         show(block);
         rest = behind;
     }

@@ -30,13 +30,13 @@ fn field<T: Unsigned>(name: &[u8], x: T, lo: u32, hi: u32) {
 }
 
 // Whether the take passes, with the end of its bytes; and the part that is there.
-#[tactic(auto, using(util::proofs::Takes::taken_there))]
+#[tactic(auto, using(util::proofs::Takes::taken_there, util::proofs::Takes::taken_length))]
 fn taken(buf: &[u8], pos: usize, n: usize) {
     text(b"take ");
     match take_at(buf, pos, n) {
-        Ok(_) => {
+        Ok(bytes) => {
             text(b"whole ");
-            number((pos + n) as u64);
+            number((pos + bytes.len()) as u64);
         }
         Err(needed) => short(needed),
     }
