@@ -29,12 +29,12 @@ pub fn part(bytes: &[u8]) {
     }
 }
 
-// Prints what a record call answers, and by `fields` its record, or what stands for none.
-fn record<T: Copy, F: FnOnce(T)>(answer: Result<T, Refusal>, none: T, fields: F)
+// Prints what a record call answers, and by `fields` the record beside the answer.
+fn record<T: Copy, F: FnOnce(T)>(answer: Result<T, Refusal>, beside: T, fields: F)
     requires { F.IsAlwaysCallable fields }
 {
     answer.map_or_else(refused, |_| text(b" done"));
-    fields(answer.unwrap_or(none));
+    fields(beside);
 }
 
 // Prints a texture's record.
@@ -61,7 +61,8 @@ fn palette(record: PaletteRecord) {
 pub fn textures(block: &[u8], n: usize) {
     text(b"texture");
     number(n as u64);
-    record(tex::texture(block, n), tex::no_texture(), texture);
+    let answer = tex::texture(block, n);
+    record(answer, tex::texture_or_blank(answer), texture);
     text(b"\ndata1");
     part(tex::texture_data1(block, n));
     text(b"\ndata2");
@@ -73,6 +74,7 @@ pub fn textures(block: &[u8], n: usize) {
 pub fn palettes(block: &[u8], n: usize) {
     text(b"palette");
     number(n as u64);
-    record(tex::palette(block, n), tex::no_palette(), palette);
+    let answer = tex::palette(block, n);
+    record(answer, tex::palette_or_blank(answer), palette);
     text(b"\n");
 }

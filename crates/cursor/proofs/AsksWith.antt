@@ -1,5 +1,5 @@
--- The walk of a function of a cursor and a number, over the function that it calls, the number's width and the answer's type. The cursor is taken
--- apart, and the function is called on its slice, its position and the number.
+-- The walk of `cursor::Cur::nth_u16`, over the function that it calls, the number's width and the answer's type. The cursor is taken apart, and the
+-- function is called on its slice, its position and the number.
 --     asked, asking     the contract of the function called, and of the one walked: both say Φ of the bytes, the position, the number and the answer
 --     code              the MIR, over the called function's name
 --     asks_with         a function with this MIR meets `asking`

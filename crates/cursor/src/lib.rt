@@ -9,6 +9,16 @@ ghost use Rattle.cursor.specs.Cursor.{bytes, taken_on};
 use util::cur::{Needed, take_at};
 use util::unsigned::Unsigned;
 
+// The n-th number of 2 bytes from pos on, counted from 0.
+#[tactic(auto, using(util::proofs::Takes::taken_length, util::proofs::Takes::number_taken, util::proofs::Takes::same_short))]
+fn nth_u16_of(buf: &[u8], pos: usize, n: u32) -> Result<u16, Needed>
+    ensures { taken_outcome result ≡ peek_of 2 (pos + 2 * n) buf.now }
+{
+    let before = 2 * (n as usize);
+    let numbers = take_at(buf, pos, before + 2)?;
+    Ok(u16::view(numbers, before))
+}
+
 /// A slice and a position in it, which may be beyond the end.
 #[derive(Clone, Copy)]
 pub struct Cur<'a> {
@@ -18,13 +28,10 @@ pub struct Cur<'a> {
 
 impl<'a> Cur<'a> {
     /// The n-th number of 2 bytes from the position on, counted from 0. The position stays.
-    #[tactic(auto, using(util::proofs::Takes::taken_length, util::proofs::Takes::number_taken, util::proofs::Takes::same_short))]
     pub fn nth_u16(self, n: u32) -> Result<u16, Needed>
         ensures { taken_outcome result ≡ peek_of 2 (self.entry.pos + 2 * n) (bytes self.entry) }
     {
-        let before = 2 * (n as usize);
-        let numbers = take_at(self.buf, self.pos, before + 2)?;
-        Ok(u16::view(numbers, before))
+        nth_u16_of(self.buf, self.pos, n)
     }
 
     /// The n bytes at the position, which moves behind them, as the part of the slice that they occupy. A short take hands out the empty part

@@ -1,6 +1,6 @@
 -- Thirteen calls that read the block that they take: a name list, the layout, the reading, the records, the data parts, the palette block and its
 -- place, a picture's places, rows, pictures and images. A law that is to hold of all of them is stated once, over a call as a value; `BlockCalls`
--- of that law has a field for each call. So a call that is added here owes every law of the list.
+-- of that law has a field for each call. So a call that is added here owes every law of the list. `Tex::read` answers as the layout does, and has its field.
 --
 -- Not here: the forms by a block that was read or by places, which are handed what a reading of the same bytes found; fetching runs, which are lent the whole
 -- block (`stream` specs/Fetch.antt); the listing, which has a text also for a block that is refused, and so another text for a block that is cut;
@@ -49,7 +49,7 @@ writing made output = record { answer = λ b. write_outcome (made b) output; bes
 abbrev pub block_read : (kind : Kind) (pos : ℕ) → BlockCall NameList (Unit {0})
 block_read kind pos = answering (λ b. outcome_of (run (name_list kind pos) b) result)
 
--- `reading::lay_out`: a block's layout.
+-- `reading::lay_out`: a block's layout. `Tex::read` of `reading` has the same equation: its answer is the block and the layout.
 abbrev pub block_lay_out : BlockCall Layout (Unit {0})
 block_lay_out = answering (λ b. layout_answer b (run read_tex b))
 
@@ -57,7 +57,8 @@ block_lay_out = answering (λ b. layout_answer b (run read_tex b))
 abbrev pub block_read_tex : BlockCall Counts (Unit {0})
 block_read_tex = answering (λ b. Calls.reading_of (run read_tex b))
 
--- `nitro::tex::texture` and `nitro::tex::palette`: a record; beside it, what stands for it where it is refused.
+-- `nitro::tex::texture` and `nitro::tex::palette`: a record; beside it that of `texture_or_blank` and of `palette_or_blank`, which is blank where it is
+-- refused.
 abbrev pub block_texture : (i : ℕ) → BlockCall TextureRecord TextureRecord
 block_texture i = record {
   answer = λ b. Calls.texture_of i (run read_tex b);

@@ -73,6 +73,22 @@ pub fn no_palette() -> PaletteRecord
     }
 }
 
+/// The record of an answer, or where it is refused the one that stands for it, `no_texture`.
+#[tactic(auto, unfolding(crate::specs::Calls::value_or))]
+pub fn texture_or_blank(answer: Result<TextureRecord, Refusal>) -> TextureRecord
+    ensures { result ≡ Calls.value_or Calls.no_texture (result_outcome answer) }
+{
+    answer.unwrap_or(no_texture())
+}
+
+/// The same of a palette's, by `no_palette`.
+#[tactic(auto, unfolding(crate::specs::Calls::value_or))]
+pub fn palette_or_blank(answer: Result<PaletteRecord, Refusal>) -> PaletteRecord
+    ensures { result ≡ Calls.value_or Calls.no_palette (result_outcome answer) }
+{
+    answer.unwrap_or(no_palette())
+}
+
 /// Reads the block: how many textures and palettes it has.
 #[tactic(auto, using(crate::proofs::Answers::answers))]
 pub fn read_tex(block: &[u8]) -> Result<Counts, Refusal>

@@ -40,14 +40,14 @@ fn add_record(sum: &mut Sum, record: TextureRecord) {
 pub fn texture(sum: &mut Sum, block: &[u8], n: usize) {
     let answer = tex::texture(block, n);
     answer.map_or_else(refused, |_| text(b" | ok"));
-    add_record(sum, answer.unwrap_or(tex::no_texture()));
+    add_record(sum, tex::texture_or_blank(answer));
 }
 
 /// The same for a palette.
 pub fn palette(sum: &mut Sum, block: &[u8], n: usize) {
     let answer = tex::palette(block, n);
     answer.map_or_else(refused, |_| text(b" | ok"));
-    let record = answer.unwrap_or(tex::no_palette());
+    let record = tex::palette_or_blank(answer);
     sum.add_all(&record.name.0);
     sum.add(u64::from(record.off));
 }
