@@ -13,13 +13,15 @@ ghost use Rattle.told.specs.Told as Told;
 use name::Name;
 use told::tell_len;
 
-#[tactic(auto, using(crate::proofs::Padded::name_filled))]
+#[tactic(auto, using(crate::proofs::Padded::name_cut, crate::proofs::Padded::name_padded))]
 fn name_of(bytes: &[u8]) -> Name
     ensures { result.0 ≡ Told.name_of bytes.now }
 {
     let mut name = [0u8; 16];
-    let len = bytes.len().min(16);
-    name[..len].copy_from_slice(&bytes[..len]);
+    match bytes.first_chunk() {
+        Some(first) => name = *first,
+        None => name[..bytes.len()].copy_from_slice(bytes),
+    }
     Name(name)
 }
 

@@ -11,15 +11,15 @@ use name::Name;
 use nitro::tex::{PaletteRecord, TextureRecord};
 use text::Writer;
 
-// A name in letters, digits and underscores, and the space or line end behind it. 16 bytes are room for each such text, so it is never refused.
-#[tactic(auto, using(text::proofs::Puts::whole, name::proofs::Texts::safe_within))]
+// A name in letters, digits and underscores, and the space or line end behind it. There is room for the text, so it is never refused.
+#[tactic(auto, using(text::proofs::Puts::whole, text::proofs::Puts::puts))]
 fn put_name(writer: &mut Writer<'_>, name: Name, end: &[u8])
     requires { HasRoom (safe_text name.0 ++ end.now) writer.old }
     ensures { Adds (safe_text name.0 ++ end.now) writer.old writer.new }
 {
-    let mut text = [0; 16];
-    let len = name.print_safe(&mut text).unwrap();
-    writer.put_field(&text[..len], end);
+    let len = name.print_safe(&mut writer.out[writer.at..]).unwrap();
+    writer.at += len;
+    writer.put(end);
 }
 
 /// The line of texture n.

@@ -7,6 +7,7 @@ ghost use Rattle.std.specs.List.{prefix_len};
 ghost use Rattle.util.specs.Outcome.{result as answered};
 ghost use Rattle.output.specs.Output.{Writes};
 ghost use Rattle.errors.specs.Refusal.{result_outcome};
+ghost use Rattle.text.specs.Writer.{HasRoom, Adds};
 ghost use Rattle.name.specs.Name as Text;
 
 use errors::Refusal;
@@ -30,6 +31,21 @@ fn display_char(b: u8) -> char
     if b < 0x20 { '.' } else { char::from(b) }
 }
 
+// Puts that character's UTF-8, which of a character of ASCII is its number alone.
+#[tactic(auto, using(std::proofs::lemmas::Str::encode_ascii))]
+fn put_character(writer: &mut Writer<'_>, b: u8)
+    requires { HasRoom (Text.display_byte b) writer.old }
+    ensures { Adds (Text.display_byte b) writer.old writer.new }
+{
+    let shown = display_char(b);
+    if shown.is_ascii() {
+        writer.put(&[shown as u8]);
+    } else {
+        let mut character = [0; 4];
+        writer.put(shown.encode_utf8(&mut character).as_bytes());
+    }
+}
+
 impl Name {
     // How many zeros are at the end.
     fn trailing_zeros(self) -> usize
@@ -49,10 +65,15 @@ impl Name {
     }
 
     // Each byte as a letter or digit, or an underscore.
+    #[tactic(auto, using(std::proofs::lemmas::List::Edits::map_over_more))]
     fn safe_bytes(self) -> [u8; 16]
         ensures { result ≡ map Text.safe_byte self.0 }
     {
-        self.0.map(safe_byte)
+        let mut bytes = self.0;
+        for b in &mut bytes {
+            *b = safe_byte(*b);
+        }
+        bytes
     }
 
     /// Writes the name as letters, digits and underscores, of which there is at least one: where no byte stays, the first zero is written.
@@ -73,8 +94,7 @@ impl Name {
         let mut text = [0; 32];
         let mut writer = Writer::new(&mut text);
         for b in &self.0[..self.trimmed_len()] {
-            let mut character = [0; 4];
-            writer.put(display_char(*b).encode_utf8(&mut character).as_bytes());
+            put_character(&mut writer, *b);
         }
         let len = writer.at;
         write(&text[..len], out)

@@ -1,12 +1,14 @@
 -- The laws of texts that are put into an output one behind the other. Assumes nothing.
 use Prim.Native.Nat.{ℕ, ◌+◌, ◌-◌}
 use mathlib.Core.Path.{◌≡◌, refl, ◌∙◌}
-use mathlib.Core.List.{List, ◌++◌, append_assoc}
+use mathlib.Core.List.{List, [], ◌++◌, append-nil, append_assoc}
 use native.Mathlib.Omega.{arith}
 use lib.ListN.{length, take, drop, length-append, length-drop, length-take}
 use lib.Seq.{take_all, drop-drop, drop-length, sets, sets-eq, length-sets}
-use borrow.Rule.Slice.PartMut.{put_mid}
+use borrow.Rule.Slice.PartMut.{mid_of, post_of, put_mid, Post-is}
+use Rattle.util.specs.Outcome.{Outcome, result}
 use Rattle.errors.proofs.Refusals.{refusal_not}
+use Rattle.output.specs.Output.{Writes}
 use Rattle.output.proofs.Outputs.{sets_append, outcome_there, output_there, text_there, outcome_short, output_short, writes_whole}
 use Rattle.text.specs.Put.{Room, Put}
 
@@ -43,6 +45,19 @@ module _ {text entry exit : List ℕ} {at end : ℕ} (p : Put text entry at exit
 
   pub room_next : (next more : List ℕ) → Room (text ++ (next ++ more)) entry at → Room next exit end
   room_next next more r = room_first next more (room_then r)
+
+-- a text that a call wrote to the output's part from the place on
+pub record PartWrote (text entry : List ℕ) (at : ℕ) (answer : Outcome ℕ) (part : List ℕ) : Type 0 where
+  pub outcome : answer ≡ result (length text)
+  pub output : put_mid at (length entry - at) entry part ≡ sets entry at text
+
+pub part_wrote : (text entry : List ℕ) (at : ℕ) {answer : Outcome ℕ} {part : List ℕ} → Room text entry at
+    → Writes (result text) (mid_of at (length entry - at) entry) answer part → PartWrote text entry at answer part
+part_wrote text entry at r w =
+    let all : mid_of at (length entry - at) entry ≡ drop at entry = take_all (length entry - at) (drop at entry) (rw length-drop (omega arith)) in
+    let none : post_of at (length entry - at) entry ≡ [] = Post-is at (length entry) entry (omega (arith, r.fits)) ∙ drop-length entry in
+    let (told, wrote) = writes_whole text (drop at entry) (rw length-drop (omega (arith, r.fits))) (rw all at w) in
+    record { outcome = told; output = rw (wrote.holds, none, append-nil, drop-drop, sets-eq text entry at r.fits, append_assoc) }
 
 -- for functions that write a text at the start of an output
 pub ruleset whole = (outcome_there, output_there, text_there, outcome_short, output_short, refusal_not, length-sets, length-take)
