@@ -1,5 +1,5 @@
 -- The bytes of an answer. Assumes nothing.
-use Rattle.std.specs.Prelude.{ℕ, ◌≡◌, ◌+◌, ◌-◌, cond, ◌||◌, eqb, leb, List, [], ◌∷◌, ◌++◌, length, take, replicate, Result, Ok, Err}
+use Rattle.std.specs.Prelude.{ℕ, ◌≡◌, ◌+◌, ◌-◌, cond, ◌||◌, eqb, leb, List, [], ◌∷◌, ◌++◌, length, take, drop, replicate, Result, Ok, Err}
 use Rattle.util.specs.Outcome.{Outcome, result, refusal}
 use Rattle.std.specs.Int.{to_le_bytes, w64}
 use Rattle.answer_bytes.specs.declared.TheConstants.{ROOM, UNWRITTEN}
@@ -35,6 +35,19 @@ part_bytes part = low_bytes (length part) ++ part
 abbrev pub drawn_bytes : Result ℕ Refusal → (output : List ℕ) → List ℕ
 drawn_bytes (Ok n) output = 0 ∷ take n output
 drawn_bytes (Err refused) output = class_of (refusal_number refused) ∷ []
+
+-- The room is unwritten from a place on.
+abbrev pub UnwrittenFrom : (place : ℕ) (room : List ℕ) → Type 0
+UnwrittenFrom place room = drop place room ≡ replicate (ROOM - place) UNWRITTEN
+
+-- What is behind the picture in an output that it was drawn to: all of it, where the picture was refused.
+abbrev pub rest_of : Result ℕ Refusal → (output : List ℕ) → List ℕ
+rest_of (Ok n) output = drop n output
+rest_of (Err refused) output = output
+
+-- A call keeps what is behind the picture that it draws. `draws` is what it draws, as in `PutsPicture`.
+abbrev pub KeepsRest : (draws : (before : List ℕ) → Result ℕ Refusal → (after : List ℕ) → Type 0) → Type 0
+KeepsRest draws = (before : List ℕ) (answer : Result ℕ Refusal) (after : List ℕ) → draws before answer after → rest_of answer after ≡ rest_of answer before
 
 -- A picture was drawn to the room behind class 0, none of which was written, and is put behind the answer. `draws` is what a call draws: the
 -- output before it, its answer, and the output behind it.

@@ -2,11 +2,11 @@
 
 #![tactic(auto)]
 
-ghost use Rattle.std.specs.Prelude.{◌≡◌, ◌+◌, ◌-◌, ◌%◌, ◌≤◌, ◌↔◌, List, ℕ, [], ◌∷◌, length, take, replicate, IsTrue, Result};
+ghost use Rattle.std.specs.Prelude.{◌≡◌, ◌+◌, ◌-◌, ◌%◌, ◌≤◌, ◌↔◌, List, ℕ, [], ◌∷◌, length, take, replicate, cond, IsTrue, Result};
 ghost use Rattle.std.specs.Fn.{FnOnceReturnsAtMut};
 ghost use Rattle.errors.specs.Refusal.{refusal_number};
 ghost use Rattle.answer_bytes.specs.declared.TheConstants.{ROOM};
-ghost use Rattle.answer_bytes.specs.Answer.{extended, class_of, low_bytes, part_bytes, PutsPicture};
+ghost use Rattle.answer_bytes.specs.Answer.{extended, class_of, low_bytes, part_bytes, UnwrittenFrom, KeepsRest, PutsPicture};
 
 use errors::Refusal;
 use std::marker::Model;
@@ -35,11 +35,20 @@ fn class(refusal: Refusal) -> u8
     }
 }
 
+// Where the room is unwritten from, behind a picture that ends at `end`: there, if its closure kept what is behind it, or else nowhere.
+fn written_to(end: usize, keeps: bool) -> usize
+    ensures { result ≡ cond keeps end ROOM }
+{
+    if keeps { end } else { ROOM }
+}
+
 /// An answer: a list of bytes, the first len of the room. What does not fit is left out.
 #[derive(Drop)]
 pub struct Answer {
     room: [u8; ROOM],
     len: usize,
+    // From here on the room is unwritten, so only what lies before it is filled again for a picture.
+    written: usize,
 }
 
 impl Model for Answer {
@@ -47,28 +56,35 @@ impl Model for Answer {
 
     ghost view = { λ a. take a.len a.room };
 
-    ghost invariant = { λ a. a.len ≤ ROOM };
+    ghost invariant = { λ a. (a.len ≤ ROOM) × (a.written ≤ ROOM) × UnwrittenFrom a.written a.room };
 }
 
 impl Answer {
-    /// An answer with no bytes yet.
+    /// An answer with no bytes yet. It is inlined, so that the room is made where it stays, and not copied there.
+    #[inline(always)]
     pub fn new() -> Answer
         ensures { result ≡ [] }
     {
-        Answer {
+        let mut answer = Answer {
             room: [0; ROOM],
             len: 0,
-        }
+            written: ROOM,
+        };
+        // It is filled where it stands, since a room that is made of other bytes than 0 is copied to its place.
+        answer.room.fill(UNWRITTEN);
+        answer.written = 0;
+        answer
     }
 
     /// Puts bytes.
-    #[tactic(auto, using(crate::proofs::Extended::copied))]
+    #[tactic(auto, using(crate::proofs::Extended::copied, crate::proofs::Rest::copied_before))]
     pub fn put_bytes(&mut self, bytes: &[u8])
         ensures { self.new ≡ extended self.old bytes.now }
     {
         let n = (ROOM - self.len).min(bytes.len());
         self.room[self.len..self.len + n].copy_from_slice(&bytes[..n]);
         self.len += n;
+        self.written = self.written.max(self.len);
     }
 
     /// Puts the low 8 bits of a number.
@@ -107,13 +123,37 @@ impl Answer {
         requires { F.IsAlwaysCallable draw }
         ensures { PutsPicture (FnOnceReturnsAtMut F.FnOnce draw) self.old self.new }
     {
+        self.put_drawn(draw, false);
+    }
+
+    /// Puts a picture as `put_picture` does, where `draw` keeps what is behind its picture, and the whole output where it is refused. So most of the
+    /// room need not be filled for the next picture, and where there are many this is the call.
+    pub fn put_picture_keeping<F: FnOnce(&mut [u8]) -> Result<usize, Refusal>>(&mut self, draw: F)
+        requires callable { F.IsAlwaysCallable draw }
+        requires keeps { KeepsRest (FnOnceReturnsAtMut F.FnOnce draw) }
+        ensures { PutsPicture (FnOnceReturnsAtMut F.FnOnce draw) self.old self.new }
+    {
+        self.put_drawn(draw, true);
+    }
+
+    // Puts a picture, where it is said whether `draw` keeps what is behind it.
+    fn put_drawn<F: FnOnce(&mut [u8]) -> Result<usize, Refusal>>(&mut self, draw: F, keeps: bool)
+        requires callable { F.IsAlwaysCallable draw }
+        requires keeps { IsTrue keeps → KeepsRest (FnOnceReturnsAtMut F.FnOnce draw) }
+        ensures { PutsPicture (FnOnceReturnsAtMut F.FnOnce draw) self.old self.new }
+    {
         let len = self.len;
         self.put_u8(0);
+        let written = self.written.saturating_sub(self.len);
         let output = &mut self.room[self.len..];
-        output.fill(UNWRITTEN);
+        output[..written].fill(UNWRITTEN);
         match draw(output) {
-            Ok(n) => self.len += n.min(output.len()),
+            Ok(n) => {
+                self.len += n.min(output.len());
+                self.written = written_to(self.len, keeps);
+            }
             Err(refusal) => {
+                self.written = written_to(self.len, keeps);
                 self.len = len;
                 self.put_class(refusal);
             }

@@ -10,11 +10,11 @@ use decode::picture::picture;
 use nitro::tex::Counts;
 
 // Puts the picture of texture n with the chosen palette.
-#[tactic(auto, using(answer_bytes::proofs::Pictures::drawn_made))]
+#[tactic(auto, using(answer_bytes::proofs::Pictures::drawn_made, answer_bytes::proofs::Pictures::rest_kept))]
 fn put_one(answer: &mut Answer, block: &[u8], n: usize, choice: Option<usize>)
     ensures { answer.new ≡ with_one block.now n choice answer.old }
 {
-    answer.put_picture(|out| picture(block, n, choice, out));
+    answer.put_picture_keeping(|out| picture(block, n, choice, out));
 }
 
 // Puts the pictures of texture n: without a palette, and, where there is any palette, with one.

@@ -29,21 +29,22 @@ fn put_read(answer: &mut Answer, block: &[u8], counts: Counts)
     put_pictures(answer, block, counts);
 }
 
-// The answer to a block that is read so.
-fn answer_by(block: &[u8], reading: Result<Counts, Refusal>) -> Answer
-    ensures { result ≡ answer_by block.now (result_outcome reading) }
+// Puts the answer to a block that is read so, where nothing is put yet. It is lent, since an answer's room is too large to be handed out each time.
+fn put_answer(answer: &mut Answer, block: &[u8], reading: Result<Counts, Refusal>)
+    requires { answer.old ≡ [] }
+    ensures { answer.new ≡ answer_by block.now (result_outcome reading) }
 {
-    let mut answer = Answer::new();
     match reading {
-        Ok(counts) => put_read(&mut answer, block, counts),
+        Ok(counts) => put_read(answer, block, counts),
         Err(refusal) => answer.put_class(refusal),
     }
-    answer
 }
 
 /// Whether the block's answer is the stored one.
 pub fn block_agrees(block: &[u8], stored: &[u8]) -> bool
     ensures { IsTrue result ↔ (answer_to block.now ≡ stored.now) }
 {
-    answer_by(block, tex::read_tex(block)).agrees(stored)
+    let mut answer = Answer::new();
+    put_answer(&mut answer, block, tex::read_tex(block));
+    answer.agrees(stored)
 }

@@ -23,19 +23,16 @@ use report::{STDIN_FILENO, text};
 // The most bytes that an output has.
 const ROOM: usize = 22400;
 
-// Shows a case, with an output that is filled.
-fn show(case: Case) {
+// Shows a case. The output comes by value, so that each case gets one that is as it was filled.
+fn show(case: Case, mut out: [u8; ROOM]) {
     text(case.named(0));
-    listed_to(
-        case.named(8),
-        &mut filled::<ROOM>(),
-        case.field(16) as usize,
-    );
+    listed_to(case.named(8), &mut out, case.field(16) as usize);
 }
 
 // Reads the input, and shows its cases. Some of them have more than the 65,536 bytes that `io::large_buffer` has.
 fn main() {
     let mut buffer = [0; 196608];
+    let out = filled::<ROOM>();
     let n = io::read_full(STDIN_FILENO, &mut buffer);
-    each_case(&buffer[..n], 20, show);
+    each_case(&buffer[..n], 20, |case| show(case, out));
 }

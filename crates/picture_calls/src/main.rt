@@ -19,7 +19,7 @@
 
 #![tactic(auto)]
 
-use cases::{Case, each_case, filled};
+use cases::{Case, each_case, fill};
 use decode::decode_texture::{Texture, decode_texture};
 use decode::picture::picture;
 use errors::Refusal;
@@ -79,16 +79,19 @@ fn run(case: Case, out: &mut [u8]) {
     text(b"\n");
 }
 
-// Runs the case with an output of the length that it asks for, which is filled. One that asks for more than the most is left out.
-fn show(case: Case) {
-    if let Some(out) = filled::<ROOM>().get_mut(..case.field(24) as usize) {
+// Runs the case with the first bytes of the room as its output, as many as it asks for, which are filled. One that asks for more than the most
+// is left out.
+fn show(case: Case, room: &mut [u8; ROOM]) {
+    if let Some(out) = room.get_mut(..case.field(24) as usize) {
+        fill(out);
         run(case, out);
     }
 }
 
-// Reads the input, and runs its cases.
+// Reads the input, and runs its cases. They share the room, since most of them ask for little of it.
 fn main() {
     let mut buffer = io::large_buffer();
+    let mut room = [0; ROOM];
     let n = io::read_full(STDIN_FILENO, &mut buffer);
-    each_case(&buffer[..n], 52, show);
+    each_case(&buffer[..n], 52, |case| show(case, &mut room));
 }

@@ -40,6 +40,8 @@
 
 #![tactic(auto)]
 
+use answer_bytes::MAX_ANSWER;
+use replay_cases::MAX_PARTS;
 use replay_runs::run_case;
 use report::{decimal, text};
 
@@ -66,11 +68,13 @@ fn totals(agreeing: u64, cases: u64) {
 }
 
 // Runs case after case. A proved loop has to end, and nothing says that the input does, so there is a largest number of cases, which no list
-// reaches.
+// reaches. Each case is read over the one before it, so the room for one is made once.
 fn replay() {
+    let mut parts = [0; MAX_PARTS];
+    let mut stored = [0; MAX_ANSWER];
     let mut agreeing = 0;
     for case in 0..u64::MAX {
-        match run_case() {
+        match run_case(&mut parts, &mut stored) {
             Ok(Some(true)) => agreeing += 1,
             Ok(Some(false)) => differs(case),
             Ok(None) => return totals(agreeing, case),

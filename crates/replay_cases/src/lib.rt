@@ -9,6 +9,9 @@ use report::STDIN_FILENO;
 /// The limit of a block, and of each part of a direct decoding.
 pub const MAX_PART: usize = 4096;
 
+/// The limit of a direct decoding's three parts together.
+pub const MAX_PARTS: usize = 3 * MAX_PART;
+
 /// The list is broken: it is cut, or a length is over its limit.
 #[derive(Clone, Copy, Debug, PartialEq, Eq)]
 pub struct Broken;

@@ -2,37 +2,50 @@
 
 #![tactic(auto)]
 
+ghost use Rattle.std.specs.Prelude.{◌+◌, ◌≤◌, IfOk};
+
 use answer_bytes::MAX_ANSWER;
 use decode::decode_texture::Texture;
 use direct_answers::direct_agrees;
 use nds::texture_params::TextureParams;
-use replay_cases::{Broken, MAX_PART, next_bytes, next_part, next_u8};
+use replay_cases::{Broken, MAX_PART, MAX_PARTS, next_bytes, next_part};
+use util::unsigned::Unsigned;
 
-// The list's next number.
-fn next_u32() -> Result<u32, Broken> {
-    let mut bytes = [0; 4];
-    next_bytes(&mut bytes, 4)?;
-    Ok(u32::from_le_bytes(bytes))
+// The length of what stands between a direct decoding's first byte and its first data.
+const HEAD: usize = 21;
+
+// The next length in the head, or that the list is broken where it is over the limit of a part.
+fn part_len(head: &[u8; HEAD], pos: usize) -> Result<usize, Broken>
+    requires { pos + 4 ≤ 21 }
+    ensures { IfOk result (λ len. len ≤ 4096) }
+{
+    let len = u32::view(head, pos) as usize;
+    if len <= MAX_PART {
+        Ok(len)
+    } else {
+        Err(Broken)
+    }
 }
 
-/// Whether a case that is a direct decoding agrees.
-pub fn run_direct() -> Result<bool, Broken> {
-    let params = TextureParams(next_u32()?);
-    let has_palette = next_u8()?;
-    let palette_off = next_u32()?;
-    let data1_len = next_u32()?;
-    let data2_len = next_u32()?;
-    let pal_len = next_u32()?;
-    let mut data1 = [0; MAX_PART];
-    let mut data2 = [0; MAX_PART];
-    let mut pal_block = [0; MAX_PART];
-    let mut stored = [0; MAX_ANSWER];
+/// Whether a case that is a direct decoding agrees. Its parts and the stored answer are read to the room that is lent for them, all three parts at
+/// once.
+pub fn run_direct(
+    parts: &mut [u8; MAX_PARTS],
+    stored: &mut [u8; MAX_ANSWER],
+) -> Result<bool, Broken> {
+    let mut head = [0; HEAD];
+    next_bytes(&mut head, HEAD)?;
+    // A length over its limit breaks the list before any part is read, for which a pipe might be waited.
+    let data1_len = part_len(&head, 9)?;
+    let data2_len = part_len(&head, 13)?;
+    let pal_len = part_len(&head, 17)?;
+    let parts = next_bytes(parts, data1_len + data2_len + pal_len)?;
     let texture = Texture {
-        params,
-        palette: (has_palette != 0).then_some(palette_off),
-        data1: next_bytes(&mut data1, data1_len as usize)?,
-        data2: next_bytes(&mut data2, data2_len as usize)?,
-        pal_block: next_bytes(&mut pal_block, pal_len as usize)?,
+        params: TextureParams(u32::view(&head, 0)),
+        palette: (head[4] != 0).then_some(u32::view(&head, 5)),
+        data1: &parts[..data1_len],
+        data2: &parts[data1_len..data1_len + data2_len],
+        pal_block: &parts[data1_len + data2_len..],
     };
-    Ok(direct_agrees(texture, next_part(&mut stored)?))
+    Ok(direct_agrees(texture, next_part(stored)?))
 }

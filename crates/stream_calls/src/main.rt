@@ -45,20 +45,21 @@ fn request_of(case: Case) -> Request {
     }
 }
 
-// Shows a case.
-fn show(case: Case) {
+// Shows a case. The output comes by value, so that each case gets one that is as it was filled.
+fn show(case: Case, mut out: [u8; ROOM]) {
     text(case.named(4));
     let block = case.named(12);
     let request = request_of(case);
     match case.field(0) {
         0 => prefixes(block, case.field(36) as usize, request),
-        _ => fetching(block, request, &mut filled::<ROOM>()),
+        _ => fetching(block, request, &mut out),
     }
 }
 
 // Reads the input, and shows its cases.
 fn main() {
     let mut buffer = io::large_buffer();
+    let out = filled::<ROOM>();
     let n = io::read_full(STDIN_FILENO, &mut buffer);
-    each_case(&buffer[..n], 40, show);
+    each_case(&buffer[..n], 40, |case| show(case, out));
 }
