@@ -20,7 +20,8 @@ use Rattle.texels.specs.Texels.{block_color, format5}
 use Rattle.output.specs.Output.{pieces}
 use Rattle.paint.specs.Paint.{painted, pixel_at, TexelTable}
 use Rattle.compressed.specs.Blocks.{row_bytes, byte_of, row_of, BlockPut, compressed_texel, rows_texel}
-use Rattle.paint.proofs.Quads.{Fours, length_quads, Painting}
+use Rattle.paint.proofs.Bytes as Bytes
+use Rattle.paint.proofs.Quads.{Fours, length_quads, Painting, painted_at}
 use Rattle.texels.proofs.Texels.{below_four, block_four}
 use Rattle.texels.proofs.Index.{row_below}
 
@@ -266,6 +267,20 @@ module _ (width row i r b : ℕ) (data1 data2 pal_block : List ℕ) (p : ℕ) (h
       (λ c l.
       let k = byte_of data1 (4 * b + r) / 2 ^ (2 * c) % 2 ^ 2 in
       t.at k (omega arith) ∙ rw (e, ← number_bits data1 (4 * b) bytes fits r c hr l) (sym (block_texel_lem c l)))
+
+  -- the same of a table of texels as bytes, as a picture has them
+  pub row_texels_bytes : (extra : ℕ) (entry : List ℕ) {table : List ℕ}
+      → extra ≡ number_at 2 (2 * b) data2 → table ≡ painted (block_color pal_block p extra) 4 entry
+      → ((k : ℕ) → get_or data1 k 0 < 256) → 4 * b + 4 ≤ length data1
+      → pieces (λ c. Bytes.pixel_at table (byte_of data1 (4 * b + r) / 2 ^ (2 * c) % 2 ^ 2)) 4
+      ≡ pieces (λ c. rows_texel width data1 data2 pal_block p row (r * width + (4 * i + c))) 4
+  row_texels_bytes extra entry {table} e t bytes fits =
+      pieces_same _ (λ c. rows_texel width data1 data2 pal_block p row (r * width + (4 * i + c))) 4
+      (λ c l.
+      let k = byte_of data1 (4 * b + r) / 2 ^ (2 * c) % 2 ^ 2 in
+      ap (λ m. Bytes.pixel_at m k) t
+      ∙ (painted_at (block_color pal_block p extra) 4 k entry (block_four pal_block p extra) (omega arith)
+      ∙ (rw (e, ← number_bits data1 (4 * b) bytes fits r c hr l) (sym (block_texel_lem c l)))))
 
 -- n numbers behind n · i of them, and 4n behind n · 4i
 pub mul_below : (n i k : ℕ) → i < k → n * i + n ≤ n * k

@@ -1,2 +1,3 @@
+pub mod Bytes
 pub mod Quads
 pub mod Tables

@@ -1,22 +1,24 @@
 -- The laws of a palette written out as a table of texels, and of the texels that are taken from it. Assumes nothing.
-use Prim.Native.Nat.{ℕ, zero, suc, ◌+◌, ◌*◌, ◌/◌, ◌%◌, ◌^◌, ◌≤◌, ◌<◌}
+use Prim.Native.Nat.{ℕ, zero, suc, ◌+◌, ◌*◌, ◌-◌, ◌/◌, ◌%◌, ◌^◌, ◌≤◌, ◌<◌}
 use mathlib.Core.Path.{◌≡◌, refl, sym, ◌∙◌}
 use mathlib.Core.Bool.{Bool, true, false}
-use mathlib.Core.List.{List}
+use mathlib.Core.List.{List, ◌++◌}
 use native.Mathlib.Nat.{add-zero, zero-add, not-suc-le-zero}
 use native.Mathlib.Omega.{arith}
-use lib.ListN.{length, get_or, set, replicate, length-set}
+use lib.ListN.{length, take, drop, get_or, set, replicate, length-set}
 use lib.Seq.{get_or-set_same, get_or-set_other}
 use lib.Dec.{ltb}
+use lib.Bits.{bit_and, and_mask}
 use borrow.Author.Tests.{ltb-true, ltb-false}
+use Rattle.std.proofs.lemmas.List.{get_or-drop}
 use Rattle.std.specs.Fn.{Mut, Called}
 use Rattle.std.specs.Array.{IsFromFnResultFrom, IsFromFnResult}
 use Rattle.texels.specs.Texels.{pixel, palette_color, texel_bits, alpha3, a3i5, indexed, formats2to4, a5i3}
-use Rattle.paint.proofs.Quads.{painted_same}
+use Rattle.paint.proofs.Quads.{Fours, painting_of, paint_part, painted_all, painted_same}
 use Rattle.paint.specs.Paint.{painted, with_alpha, pixel_at, indexed_texel, TableOf, Tabled, TexelTable, AreIndices}
 use Rattle.texels.specs.Index.{IndexThere}
 use Rattle.texels.proofs.Index.{row_below, texel_lt}
-use Rattle.texels.proofs.Texels.{texel_byte}
+use Rattle.texels.proofs.Texels.{texel_byte, indexed_four}
 
 -- a table of what a closure that stays as it is may give for each number
 module _ {F A : Type 0} (none : A) (made : ℕ → A → Type 0) (n : ℕ) (g : Mut F (ℕ × Unit {0}) A) (f : F)
@@ -50,6 +52,40 @@ pub painted_by_table : (bits : ℕ) (texels : List ℕ) (table : List (List ℕ)
     → painted (indexed_texel bits texels table) count entry ≡ painted (formats2to4 bits clear0 texels pal p) count entry
 painted_by_table bits texels table clear0 pal p count size entry t e =
     painted_same _ _ entry (λ i. indexed_texel_lem bits texels table i clear0 pal p (rw e at t)) refl
+
+-- texels of 2 bits: bits 2c and 2c + 1 of a byte, which are those of its texel c
+pub two_bits : (byte c : ℕ) → bit_and (byte / 2 ^ (2 * c)) 3 ≡ byte / 2 ^ (2 * c) % 2 ^ 2
+two_bits byte c = and_mask (byte / 2 ^ (2 * c)) 2
+
+pub byte_bits : (bytes : List ℕ) (i c : ℕ) → c < 4 → get_or bytes i 0 / 2 ^ (2 * c) % 2 ^ 2 ≡ texel_bits 2 bytes (4 * i + c)
+unfolding texel_bits
+byte_bits bytes i c h =
+    let at : (4 * i + c) * 2 / 8 ≡ i = omega arith in
+    let shift : (4 * i + c) * 2 % 8 ≡ 2 * c = omega arith in
+    rw (at, shift)
+
+-- and those behind the first i bytes
+pub bits_behind : (bytes : List ℕ) (i j : ℕ) → texel_bits 2 (drop i bytes) j ≡ texel_bits 2 bytes (4 * i + j)
+unfolding texel_bits
+bits_behind bytes i j =
+    let at : (4 * i + j) * 2 / 8 ≡ i + j * 2 / 8 = omega arith in
+    let shift : (4 * i + j) * 2 % 8 ≡ j * 2 % 8 = omega arith in
+    rw (at, shift, get_or-drop i bytes (j * 2 / 8) 0)
+
+-- the rest of the texels, behind those of the first i bytes
+module _ (bytes : List ℕ) {table : List (List ℕ)} (clear0 : Bool) (pal : List ℕ) (p : ℕ) (t : TexelTable (indexed clear0 pal p) 4 table) where
+  pub fours_then : (i m a k : ℕ) (entry : List ℕ) {rest now part : List ℕ} → rest ≡ drop i bytes → now ≡ painted (indexed_texel 2 bytes table) (4 * i) entry
+      → a ≡ 4 * (4 * i) → k ≡ length now - a → 4 * (4 * i) + 4 * m ≤ length entry
+      → part ≡ painted (indexed_texel 2 rest table) m (take k (drop a now)) → length part ≡ length (take k (drop a now))
+      → take a now ++ (part ++ drop k (drop a now)) ≡ painted (formats2to4 2 clear0 bytes pal p) (4 * i + m) entry
+  unfolding formats2to4
+  fours_then i m a k entry {rest} behind e ea ek h is kept =
+      let f = formats2to4 2 clear0 bytes pal p in
+      let four : Fours f (4 * i) = λ n l. indexed_four clear0 pal p (texel_bits 2 bytes n) in
+      let first = painting_of f (4 * i) four (omega arith) (e ∙ painted_by_table 2 bytes table clear0 pal p (4 * i) 4 entry t refl) in
+      painted_all f (4 * i + m)
+      (paint_part f (indexed_texel 2 rest table) (4 * i) m a k first ea ek h is kept
+      (λ j l. rw (behind, bits_behind bytes i j) (sym (indexed_texel_lem 2 bytes table (4 * i + j) clear0 pal p t))))
 
 pub index_there : (bits count length1 n : ℕ) → AreIndices bits count → count * bits ≤ 8 * length1 → n < count → IndexThere bits n length1
 index_there bits count length1 n a there h = record {

@@ -2,7 +2,7 @@
 
 #![tactic(auto)]
 
-ghost use Rattle.std.specs.Prelude.{ℕ, List, ◌≡◌, ◌+◌, ◌*◌, ◌≤◌, ◌<◌, ◌^◌, ◌/◌, ◌%◌, length, slice_index};
+ghost use Rattle.std.specs.Prelude.{ℕ, List, ◌≡◌, ◌+◌, ◌*◌, ◌≤◌, ◌<◌, ◌^◌, ◌/◌, ◌%◌, length, take, drop, slice_index};
 ghost use Rattle.std.proofs.lemmas.List.Edits.{sets};
 ghost use Rattle.texels.specs.Index as Index;
 ghost use Rattle.texels.specs.Texels as Texels;
@@ -25,6 +25,16 @@ pub fn put_pixel(out: &mut [u8], n: usize, pixel: [u8; 4])
     out[at + 1] = pixel[1];
     out[at + 2] = pixel[2];
     out[at + 3] = pixel[3];
+}
+
+/// Texel k of a table, or of a picture.
+#[tactic(auto, using(texels::proofs::Texels::four_at))]
+pub fn pixel_at(table: &[u8], k: usize) -> [u8; 4]
+    requires { 4 * k + 4 ≤ length table.now }
+    ensures { result ≡ take 4 (drop (4 * k) table.now) }
+{
+    let at = 4 * k;
+    [table[at], table[at + 1], table[at + 2], table[at + 3]]
 }
 
 /// Writes the first count texels, in order, each as the closure makes it by its number.
@@ -88,13 +98,45 @@ fn decode_by_table<const BITS: usize, const N: usize>(
     put_indexed::<BITS>(out, data1, &table);
 }
 
+// Writes the texels of 2 bits of the first count bytes, as the table has them. They go byte by byte: a byte is read once, and
+// its four texels are written by a loop of fixed length, which takes less than half the time of an index for each texel.
+#[tactic(auto, using(crate::proofs::Tables::two_bits))]
+fn put_fours(out: &mut [u8], bytes: &[u8], count: usize, table: &[[u8; 4]; 4])
+    requires there { count ≤ length bytes.now }
+    requires room { 16 * count ≤ length out.old }
+    ensures { out.new ≡ Paint.painted (Paint.indexed_texel 2 bytes.now table.now) (4 * count) out.old }
+{
+    for i in 0..count {
+        let byte = bytes[i];
+        put_texels(
+            &mut out[16 * i..],
+            4,
+            |c|
+                requires { c < 4 }
+                ensures { result ≡ Paint.pixel_at table.entry.now (byte / 2 ^ (2 * c) % 2 ^ 2) }
+            { table[usize::from((byte >> (2 * c)) & 3)] },
+        );
+    }
+}
+
 /// 4-colour palette texture.
 pub fn decode_format2(out: &mut [u8], data1: FirstData<2>, colors: Colors)
     requires small { data1.num_texels < 2 ^ 32 }
     requires room { 4 * data1.num_texels ≤ length out.old }
     ensures { out.new ≡ Paint.painted (Texels.formats2to4 2 colors.entry.clear0 data1.entry.bytes.now colors.entry.palette.block.now colors.entry.palette.off) data1.entry.num_texels out.old }
 {
-    decode_by_table::<2, 4>(out, data1, colors)
+    let table: [[u8; 4]; 4] = texel_table(colors);
+    let whole = data1.num_texels / 4;
+    put_fours(out, data1.bytes, whole, &table);
+    // What is left are the texels of a byte that has fewer than four.
+    put_indexed::<2>(
+        &mut out[16 * whole..],
+        FirstData {
+            bytes: &data1.bytes[whole..],
+            num_texels: data1.num_texels % 4,
+        },
+        &table,
+    );
 }
 
 /// 16-colour palette texture.

@@ -7,8 +7,8 @@ use native.Mathlib.Nat.{zero-add}
 use native.Mathlib.Numerals.{add-one}
 use native.Mathlib.Omega.{arith}
 use lib.ListN.{length, take, drop, get_or, length-drop}
-use lib.Seq.{length-take-le}
-use lib.Dec.{eqb}
+use lib.Seq.{get_or-take, length-take-le}
+use lib.Dec.{eqb, lit<}
 use borrow.Author.Tests.{eq-eqb, ne_eqb, eqb-true, eqb-false}
 use Rattle.std.specs.List.{starts_with}
 use Rattle.util.specs.Outcome.{Outcome, result}
@@ -22,7 +22,7 @@ use Rattle.errors.specs.declared.Refusal.{Refusal}
 use Rattle.errors.specs.declared.Refusal.TheVariants.{Stamp}
 use Rattle.errors.proofs.Refusals as refusals
 use Rattle.errors.specs.declared.Kind.TheVariants as kinds
-use Rattle.scripts.specs.Script.{done, whole, run, outcome_of, passing, bytes_at, each, each_from}
+use Rattle.scripts.specs.Script.{done, fault, whole, run, outcome_of, passing, bytes_at, each, each_from}
 use Rattle.info_block.specs.InfoBlock.{NameList, list_at, list_length, name_list, entry_name, entry_number}
 use Rattle.reading.specs.Tex as Tex
 use Rattle.reading.specs.Tex.{Contents, has_stamp, header_of, palette_at, read_header, read_pal_block, read_second, read_data}
@@ -58,11 +58,25 @@ stamp_starts (t ∷ e ∷ []) h = absurd (omega arith)
 stamp_starts (t ∷ []) h = absurd (omega arith)
 stamp_starts [] h = absurd (omega arith)
 
+-- where it stands in the block
+pub stamp_there : (b : List ℕ) → has_stamp (take 60 b) ≡ has_stamp b
+stamp_there b =
+    rw (get_or-take 60 b 0 0 (lit< tt), get_or-take 60 b 1 0 (lit< tt), get_or-take 60 b 2 0 (lit< tt), get_or-take 60 b 3 0 (lit< tt))
+
 -- the header
 module _ (b : List ℕ) where
   pub header_follows : Follows (run (bytes_at 0 60) b) (run read_header b)
   unfolding read_header
   header_follows = follows_bind (bytes_at 0 60) _ b
+
+  module _ (within : 60 ≤ length b) where
+    pub stamp_bad : has_stamp (take 60 b) ≡ false → run read_header b ≡ fault bad_stamp
+    unfolding read_header
+    stamp_bad e = onward (bytes_at 0 60) _ b (bytes_in 0 60 b within) ∙ expect_failed _ bad_stamp _ b e
+
+    pub header_read : has_stamp (take 60 b) ≡ true → run read_header b ≡ whole (header_of (take 60 b))
+    unfolding read_header run
+    header_read e = onward (bytes_at 0 60) _ b (bytes_in 0 60 b within) ∙ expect_met _ bad_stamp _ b e
 
   pub header_there : {h : Header} → run read_header b ≡ whole h → (60 ≤ length b) × (has_stamp (take 60 b) ≡ true)
   unfolding read_header
