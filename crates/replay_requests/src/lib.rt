@@ -8,7 +8,7 @@ use answer_bytes::MAX_ANSWER;
 use decode::decode_texture::Texture;
 use direct_answers::direct_agrees;
 use nds::texture_params::TextureParams;
-use replay_cases::{Broken, MAX_PART, MAX_PARTS, next_bytes, next_part};
+use replay_cases::{Broken, MAX_PART, next_bytes, next_part};
 use util::unsigned::Unsigned;
 
 // The length of what stands between a direct decoding's first byte and its first data.
@@ -29,10 +29,7 @@ fn part_len(head: &[u8; HEAD], pos: usize) -> Result<usize, Broken>
 
 /// Whether a case that is a direct decoding agrees. Its parts and the stored answer are read to the room that is lent for them, all three parts at
 /// once.
-pub fn run_direct(
-    parts: &mut [u8; MAX_PARTS],
-    stored: &mut [u8; MAX_ANSWER],
-) -> Result<bool, Broken> {
+pub fn run_direct(parts: &mut [u8], stored: &mut [u8]) -> Result<bool, Broken> {
     let mut head = [0; HEAD];
     next_bytes(&mut head, HEAD)?;
     // A length over its limit breaks the list before any part is read, for which a pipe might be waited.
@@ -47,5 +44,6 @@ pub fn run_direct(
         data2: &parts[data1_len..data1_len + data2_len],
         pal_block: &parts[data1_len + data2_len..],
     };
-    Ok(direct_agrees(texture, next_part(stored)?))
+    let most = stored.len().min(MAX_ANSWER);
+    Ok(direct_agrees(texture, next_part(&mut stored[..most])?))
 }

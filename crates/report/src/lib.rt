@@ -28,8 +28,8 @@ pub fn number(n: u64) {
 
 /// Prints that a call was declined: the refusal's number and what is returned with it.
 pub fn refused(refusal: Refusal) {
-    text(b" | no");
-    number(refusal.number() as u64);
+    text(b" | no ");
+    decimal(refusal.number() as u64);
     number(refusal.returned() as u64);
 }
 
