@@ -2,14 +2,13 @@
 -- Assumes nothing.
 use Prim.Native.Nat.{ℕ, zero, suc, ◌+◌, ◌*◌, ◌/◌, ◌%◌, ◌-◌, ◌^◌, ◌≤◌, ◌<◌}
 use mathlib.Core.Path.{◌≡◌, refl, sym, ap, ◌∙◌, subst}
-use mathlib.Core.List.{List, [], ◌∷◌, ◌++◌, append-nil, append_assoc}
+use mathlib.Core.List.{List, [], ◌∷◌, ◌++◌}
 use native.Mathlib.Nat.{add-zero, add-suc, suc-mul, zero-mul, mul_comm, mul_left_comm, mul-add}
 use native.Mathlib.Nat.{mod-eq_of_lt, div-eq_of_lt, mul-add-mod_self_left, mul-add-mod_self_right, mul-add-div, mul-add-div_right}
 use native.Mathlib.Omega.{arith}
-use lib.ListN.{length, take, drop, get_or, set, length-append, length-drop, take-append-drop, drop_of_length-le}
-use lib.Seq.{take-set-le, take-set-lt, drop-set-lt, drop-set-add, length-take-le, take_all, take-add, drop-drop, sets, length-sets, sets-eq}
+use lib.ListN.{length, take, drop, get_or, set, length-append, length-drop, take-append-drop}
+use lib.Seq.{take-set-le, take-set-lt, drop-set-lt, drop-set-add, length-take-le, take-add, sets, length-sets}
 use borrow.Rule.Slice.PartMut.{mid_of, put_mid}
-use lib.Bits.{bit_and, and_mask}
 use lib.Pow.{shr-shr}
 use borrow.Author.Count.{below_more}
 use Rattle.std.proofs.lemmas.List.{get_or-take, get_or-drop}
@@ -21,7 +20,7 @@ use Rattle.output.specs.Output.{pieces}
 use Rattle.paint.specs.Paint.{painted, pixel_at, TexelTable}
 use Rattle.compressed.specs.Blocks.{row_bytes, byte_of, row_of, BlockPut, compressed_texel, rows_texel}
 use Rattle.paint.proofs.Bytes as Bytes
-use Rattle.paint.proofs.Quads.{Fours, length_quads, Painting, painted_at}
+use Rattle.paint.proofs.Quads.{Fours, length_quads, Painting, put_part, paint_part, painted_at}
 use Rattle.texels.proofs.Texels.{below_four, block_four}
 use Rattle.texels.proofs.Index.{row_below}
 
@@ -118,25 +117,6 @@ length_row_bytes table row four = length_quads (chosen table row) 4 (row_fours t
 
 pub colors_four : (pal_block : List ℕ) (p extra : ℕ) {table : List (List ℕ)} → TexelTable (block_color pal_block p extra) 4 table → FourTexels table
 colors_four pal_block p extra t k h = rw (t.at k h) (block_four pal_block p extra k h)
-
--- m texels written to the part of an output from a on
-put_part : (g : ℕ → List ℕ) (m a k : ℕ) (l : List ℕ) → k ≡ length l - a → a + 4 * m ≤ length l → length (pieces g m) ≡ 4 * m
-    → take a l ++ (painted g m (take k (drop a l)) ++ drop k (drop a l)) ≡ sets l a (pieces g m)
-unfolding painted
-put_part g m a k l e h sized =
-    rw (
-      take_all k (drop a l) (simp length-drop (omega arith)),
-      drop_of_length-le (drop a l) {i = k} (simp length-drop (omega arith)),
-      append-nil,
-      drop-drop (4 * m) a l,
-      sets-eq (pieces g m) l a (omega arith),
-      sized,
-      append_assoc,
-    )
-
--- and bits 2c and 2c + 1 of a byte
-pub two_bits : (row c : ℕ) → bit_and (row / 2 ^ (2 * c)) 3 ≡ row / 2 ^ (2 * c) % 2 ^ 2
-two_bits row c = and_mask (row / 2 ^ (2 * c)) 2
 
 -- a row of four texels, written to the part of an output from a on
 pub row_put : (g : ℕ → List ℕ) (a k : ℕ) (l : List ℕ) {part : List ℕ} → k ≡ length l - a → a + 16 ≤ length l
@@ -299,19 +279,6 @@ pub rows_texel_lem : (width : ℕ) (data1 data2 pal_block : List ℕ) (p i n : �
     → rows_texel width data1 data2 pal_block p i n ≡ compressed_texel width data1 data2 pal_block p (width * (4 * i) + n)
 rows_texel_lem width data1 data2 pal_block p i n h = rw (mul-add-mod_self_left width (4 * i) n, mul-add-div h (4 * i) n)
 
--- n texels written, and m behind them
-pub paint_part : (f g : ℕ → List ℕ) (n m a k : ℕ) {entry now part : List ℕ} → Painting f n entry now → a ≡ 4 * n → k ≡ length now - a
-    → 4 * n + 4 * m ≤ length entry → part ≡ painted g m (take k (drop a now)) → length part ≡ length (take k (drop a now))
-    → ((j : ℕ) → g j ≡ f (n + j)) → Painting f (n + m) entry (take a now ++ (part ++ drop k (drop a now)))
-unfolding painted
-paint_part f g n m a k {entry} {now} {part} w ea ek h e kept same =
-    let l = wrote_length w in
-    let part_length = length-take-le k (drop a now) (simp length-drop (omega arith)) in
-    let sized : length (pieces g m) ≡ 4 * m = omega (arith, simp (length-append, length-drop) at (sym (ap length e))) in
-    let end : 4 * n + length (pieces g m) ≡ 4 * (n + m) = omega arith in
-    rw (e, put_part g m a k now ek (omega arith) sized, ea, pieces_add f n m, ← pieces_same g (λ j. f (n + j)) m (λ j _. same j), ← end)
-    (wrote_more w (pieces g m) (omega arith))
-
 -- no texels
 pub pieces_none : (f : ℕ → List ℕ) (n : ℕ) → n ≡ 0 → pieces f n ≡ []
 unfolding pieces
@@ -334,4 +301,4 @@ module _ (width height : ℕ) (data1 data2 pal_block : List ℕ) (p i : ℕ) {en
       rw (mul_next width i)
       (paint_part _ (rows_texel width data1 data2 pal_block p i) _ _ _ _ w at refl
       (omega (arith, band_below width height i below fours, wrote_length w))
-      is kept (λ j. rows_texel_lem width _ _ _ p i j some))
+      is kept (λ j _. rows_texel_lem width _ _ _ p i j some))

@@ -26,7 +26,7 @@ fn block_colors(palette: Palette, extra: u16) -> [[u8; 4]; 4]
 }
 
 // Writes a row of a block at texel n: the four texels that the row's byte chooses.
-#[tactic(auto, using(crate::proofs::Rows::two_bits))]
+#[tactic(auto, using(paint::proofs::Tables::two_bits))]
 fn put_row(out: &mut [u8], n: usize, table: &[[u8; 4]; 4], row: u8)
     requires { 4 * n + 16 ≤ length out.old }
     ensures { (out.new ≡ sets out.old (4 * n) (Blocks.row_bytes table.now row)) × (length (Blocks.row_bytes table.now row) ≡ 16) }

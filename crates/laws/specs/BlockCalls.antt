@@ -1,6 +1,6 @@
 -- Thirteen calls that read the block that they take: a name list, the layout, the reading, the records, the data parts, the palette block and its
 -- place, a picture's places, rows, pictures and images. A law that is to hold of all of them is stated once, over a call as a value; `BlockCalls`
--- of that law has a field for each call. So a call that is added here owes every law of the list. `Tex::read` answers as the layout does, and has its field.
+-- of that law has a field for each call. So a call that is added here owes every law of the list. `Tex::read` answers as the layout does, and its law is that field's.
 --
 -- Not here: the forms by a block that was read or by places, which are handed what a reading of the same bytes found; fetching runs, which are lent the whole
 -- block (`stream` specs/Fetch.antt); the listing, which has a text also for a block that is refused, and so another text for a block that is cut;

@@ -58,7 +58,7 @@ module _ (f : ℕ → List ℕ) (n : ℕ) {entry now : List ℕ} (w : Painting f
   painted_all = w.holds ∙ rw (sym w.ends)
 
 -- m texels written to the part of an output from a on
-put_part : (g : ℕ → List ℕ) (m a k : ℕ) (l : List ℕ) → k ≡ length l - a → a + 4 * m ≤ length l → length (pieces g m) ≡ 4 * m
+pub put_part : (g : ℕ → List ℕ) (m a k : ℕ) (l : List ℕ) → k ≡ length l - a → a + 4 * m ≤ length l → length (pieces g m) ≡ 4 * m
     → take a l ++ (painted g m (take k (drop a l)) ++ drop k (drop a l)) ≡ sets l a (pieces g m)
 unfolding painted
 put_part g m a k l e h sized =
