@@ -35,6 +35,7 @@ pub arriving : PrefixLaws
 arriving = record {
   read = λ kind pos. prefix_law _ (list_scripted kind pos);
   lay_out = prefix_law _ lay_out_scripted;
+  tex = prefix_law _ lay_out_scripted;
   read_tex_lem = prefix_law _ reading_scripted;
   texture = λ i. prefix_law _ (texture_scripted i);
   palette = λ i. prefix_law _ (palette_scripted i);

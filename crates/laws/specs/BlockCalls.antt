@@ -1,6 +1,6 @@
--- Thirteen calls that read the block that they take: a name list, the layout, the reading, the records, the data parts, the palette block and its
--- place, a picture's places, rows, pictures and images. A law that is to hold of all of them is stated once, over a call as a value; `BlockCalls`
--- of that law has a field for each call. So a call that is added here owes every law of the list. `Tex::read` answers as the layout does, and its law is that field's.
+-- Fourteen calls that read the block that they take: a name list, the layout, a block with its layout, the reading, the records, the data parts, the
+-- palette block and its place, a picture's places, rows, pictures and images. A law that is to hold of all of them is stated once, over a call as a
+-- value; `BlockCalls` of that law has a field for each call. So a call that is added here owes every law of the list.
 --
 -- Not here: the forms by a block that was read or by places, which are handed what a reading of the same bytes found; fetching runs, which are lent the whole
 -- block (`stream` specs/Fetch.antt); the listing, which has a text also for a block that is refused, and so another text for a block that is cut;
@@ -49,9 +49,13 @@ writing made output = record { answer = λ b. write_outcome (made b) output; bes
 abbrev pub block_read : (kind : Kind) (pos : ℕ) → BlockCall NameList (Unit {0})
 block_read kind pos = answering (λ b. outcome_of (run (name_list kind pos) b) result)
 
--- `reading::lay_out`: a block's layout. `Tex::read` of `reading` has the same equation: its answer is the block and the layout.
+-- `reading::lay_out`: a block's layout.
 abbrev pub block_lay_out : BlockCall Layout (Unit {0})
 block_lay_out = answering (λ b. layout_answer b (run read_tex b))
+
+-- `reading::tex::Tex::read`: a block with its layout. The block in it is the one that the call was handed, so what the call finds out is the layout.
+abbrev pub block_tex : BlockCall Layout (Unit {0})
+block_tex = answering (λ b. layout_answer b (run read_tex b))
 
 -- `nitro::tex::read_tex`: a reading's counts.
 abbrev pub block_read_tex : BlockCall Counts (Unit {0})
@@ -109,6 +113,7 @@ block_pam i choice output = writing (λ b. pam_of i choice (run read_tex b)) out
 pub record BlockCalls (Law : (A B : Type 0) → BlockCall A B → Type 0) : Type 0 where
   pub read : (kind : Kind) (pos : ℕ) → Law _ _ (block_read kind pos)
   pub lay_out : Law _ _ block_lay_out
+  pub tex : Law _ _ block_tex
   pub read_tex_lem : Law _ _ block_read_tex
   pub texture : (i : ℕ) → Law _ _ (block_texture i)
   pub palette : (i : ℕ) → Law _ _ (block_palette i)
