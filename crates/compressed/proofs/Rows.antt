@@ -20,7 +20,7 @@ use Rattle.output.specs.Output.{pieces}
 use Rattle.paint.specs.Paint.{painted, pixel_at, TexelTable}
 use Rattle.compressed.specs.Blocks.{row_bytes, byte_of, row_of, BlockPut, compressed_texel, rows_texel}
 use Rattle.paint.proofs.Bytes as Bytes
-use Rattle.paint.proofs.Quads.{Fours, length_quads, Painting, put_part, paint_part, painted_at}
+use Rattle.paint.proofs.Quads.{Fours, length_quads, Painting, paint_none, put_part, paint_part, painted_at}
 use Rattle.texels.proofs.Texels.{below_four, block_four}
 use Rattle.texels.proofs.Index.{row_below}
 
@@ -115,6 +115,18 @@ pub length_row_bytes : (table : List (List ℕ)) (row : ℕ) → FourTexels tabl
 unfolding row_bytes
 length_row_bytes table row four = length_quads (chosen table row) 4 (row_fours table row four)
 
+-- the same of a table of texels as bytes, as a picture has them
+abbrev pub chosen_of_bytes : (table : List ℕ) (row c : ℕ) → List ℕ
+chosen_of_bytes table row c = Bytes.pixel_at table (row / 2 ^ (2 * c) % 2 ^ 2)
+
+pub row_fours_of_bytes : (table : List ℕ) (row : ℕ) → 16 ≤ length table → Fours (chosen_of_bytes table row) 4
+row_fours_of_bytes table row h c l =
+    let k = row / 2 ^ (2 * c) % 2 ^ 2 in
+    length-take-le 4 (drop (4 * k) table) (simp length-drop (omega arith))
+
+pub length_row_of_bytes : (table : List ℕ) (row : ℕ) → 16 ≤ length table → length (pieces (chosen_of_bytes table row) 4) ≡ 16
+length_row_of_bytes table row h = length_quads (chosen_of_bytes table row) 4 (row_fours_of_bytes table row h)
+
 pub colors_four : (pal_block : List ℕ) (p extra : ℕ) {table : List (List ℕ)} → TexelTable (block_color pal_block p extra) 4 table → FourTexels table
 colors_four pal_block p extra t k h = rw (t.at k h) (block_four pal_block p extra k h)
 
@@ -134,6 +146,9 @@ pub record BlocksDone (width : ℕ) (f : ℕ → List ℕ) (i : ℕ) (entry now 
   pub row : (r : ℕ) → r < 4 → Painting (λ x. f (r * width + x)) (4 * i) (row_of width r entry) (row_of width r now)
   pub rest : drop (4 * (4 * width)) now ≡ drop (4 * (4 * width)) entry
   pub same : length now ≡ length entry
+
+pub blocks_none : (width : ℕ) (f : ℕ → List ℕ) (entry : List ℕ) → BlocksDone width f 0 entry entry
+blocks_none width f entry = record { within = omega arith; row = λ r l. paint_none _ _; rest = refl; same = refl }
 
 -- rows of texels are the texels in order
 rows_texels : (width : ℕ) (f : ℕ → List ℕ) (l : List ℕ) (n : ℕ)
@@ -248,11 +263,11 @@ module _ (width row i r b : ℕ) (data1 data2 pal_block : List ℕ) (p : ℕ) (h
       let k = byte_of data1 (4 * b + r) / 2 ^ (2 * c) % 2 ^ 2 in
       t.at k (omega arith) ∙ rw (e, ← number_bits data1 (4 * b) bytes fits r c hr l) (sym (block_texel_lem c l)))
 
-  -- the same of a table of texels as bytes, as a picture has them
+  -- the same of a table of texels as bytes
   pub row_texels_bytes : (extra : ℕ) (entry : List ℕ) {table : List ℕ}
       → extra ≡ number_at 2 (2 * b) data2 → table ≡ painted (block_color pal_block p extra) 4 entry
       → ((k : ℕ) → get_or data1 k 0 < 256) → 4 * b + 4 ≤ length data1
-      → pieces (λ c. Bytes.pixel_at table (byte_of data1 (4 * b + r) / 2 ^ (2 * c) % 2 ^ 2)) 4
+      → pieces (chosen_of_bytes table (byte_of data1 (4 * b + r))) 4
       ≡ pieces (λ c. rows_texel width data1 data2 pal_block p row (r * width + (4 * i + c))) 4
   row_texels_bytes extra entry {table} e t bytes fits =
       pieces_same _ (λ c. rows_texel width data1 data2 pal_block p row (r * width + (4 * i + c))) 4

@@ -6,7 +6,7 @@ use mathlib.Core.List.{List, [], ◌∷◌, ◌++◌, map, reverse, append-nil}
 use native.Mathlib.Nat.{zero-add}
 use native.Mathlib.Omega.{arith}
 use lib.ListN.{length, take, get_or, length-append, length-take, length-map, take-append-drop}
-use lib.Seq.{sets, length-sets}
+use lib.Seq.{take-take, sets, length-sets}
 use lib.Dec.{eqb, ltb}
 use Rattle.std.specs.List.{prefix_len, flat_map}
 use Rattle.std.proofs.lemmas.List.Concat.{flat_map-append}
@@ -118,6 +118,20 @@ shown_few (b ∷ bytes) (suc i) = omega (arith, length-append (display_byte b) (
 -- the texts of all of them
 pub shown_all : (bytes : List ℕ) (i : ℕ) → length bytes ≤ i → flat_map display_byte (take i bytes) ≡ flat_map display_byte bytes
 shown_all bytes i h = rw take_all
+
+-- the texts of the first bytes
+module _ (xs : List ℕ) (i : ℕ) where
+  -- the text of n bytes has room for that of the first i and of the next
+  pub flat_room : (f : ℕ → List ℕ) (n : ℕ) → i < n → n ≤ length xs
+      → length (flat_map f (take i xs)) + length (f (get_or xs i 0)) ≤ length (flat_map f (take n xs))
+  flat_room f n h k =
+      let more : flat_map f (take (i + 1) xs) ≡ flat_map f (take i xs) ++ f (get_or xs i 0) =
+      rw (take_more xs i 0 (omega arith), flat_map-append, append-nil)
+      in
+      let next = simp length-append at (ap length more) in
+      let e = rw flat_map-append at (ap (flat_map f) (take-append-drop (i + 1) (take n xs))) in
+      let rest = simp (length-append, take-take (i + 1) n xs (omega arith)) at (ap length e) in
+      omega arith
 
 pub text_first : (text entry : List ℕ) → length text ≤ length entry → take (0 + length text) (sets entry 0 text) ≡ text
 text_first text entry h = rw zero-add (text_there text entry h)
