@@ -82,24 +82,8 @@ fn put_indexed<const BITS: usize>(out: &mut [u8], data1: FirstData<BITS>, table:
     );
 }
 
-// Writes texels of BITS bits by a table of their N colours.
-#[tactic(auto, using(crate::proofs::Tables::painted_by_table))]
-fn decode_by_table<const BITS: usize, const N: usize>(
-    out: &mut [u8],
-    data1: FirstData<BITS>,
-    colors: Colors,
-)
-    requires indices { Paint.AreIndices BITS data1.num_texels }
-    requires room { 4 * data1.num_texels ≤ length out.old }
-    requires all { (N ≡ 2 ^ BITS) × (N ≤ 256) }
-    ensures { out.new ≡ Paint.painted (Texels.formats2to4 BITS colors.entry.clear0 data1.entry.bytes.now colors.entry.palette.block.now colors.entry.palette.off) data1.entry.num_texels out.old }
-{
-    let table: [[u8; 4]; N] = texel_table(colors);
-    put_indexed::<BITS>(out, data1, &table);
-}
-
 // Writes the texels of 2 bits of the first count bytes, as the table has them. They go byte by byte: a byte is read once, and
-// its four texels are written by a loop of fixed length, which takes less than half the time of an index for each texel.
+// its four texels are written by a loop of fixed length, which from 64 by 64 texels on takes less than half the time of an index for each texel.
 #[tactic(auto, using(crate::proofs::Tables::two_bits))]
 fn put_fours(out: &mut [u8], bytes: &[u8], count: usize, table: &[[u8; 4]; 4])
     requires there { count ≤ length bytes.now }
@@ -140,12 +124,14 @@ pub fn decode_format2(out: &mut [u8], data1: FirstData<2>, colors: Colors)
 }
 
 /// 16-colour palette texture.
+#[tactic(auto, using(crate::proofs::Tables::painted_by_table))]
 pub fn decode_format3(out: &mut [u8], data1: FirstData<4>, colors: Colors)
     requires small { data1.num_texels < 2 ^ 32 }
     requires room { 4 * data1.num_texels ≤ length out.old }
     ensures { out.new ≡ Paint.painted (Texels.formats2to4 4 colors.entry.clear0 data1.entry.bytes.now colors.entry.palette.block.now colors.entry.palette.off) data1.entry.num_texels out.old }
 {
-    decode_by_table::<4, 16>(out, data1, colors)
+    let table: [[u8; 4]; 16] = texel_table(colors);
+    put_indexed::<4>(out, data1, &table);
 }
 
 // Writes the texels of the data's first bytes, each as the closure makes it by its byte.
