@@ -40,7 +40,8 @@ fn put_answer(answer: &mut Answer, block: &[u8], reading: Result<Counts, Refusal
     }
 }
 
-/// Whether the block's answer is the stored one.
+/// Whether the block's answer is the stored one. It is not inlined, so that a direct decoding does not need the stack for a block's answer too.
+#[inline(never)]
 pub fn block_agrees(block: &[u8], stored: &[u8]) -> bool
     ensures { IsTrue result ↔ (answer_to block.now ≡ stored.now) }
 {

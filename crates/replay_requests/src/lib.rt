@@ -3,6 +3,8 @@
 #![tactic(auto)]
 
 ghost use Rattle.std.specs.Prelude.{◌+◌, ◌≤◌, IfOk};
+ghost use Rattle.replay_cases.specs.declared.TheConstants.{MAX_PART};
+ghost use Rattle.replay_requests.specs.declared.TheConstants.{HEAD};
 
 use answer_bytes::MAX_ANSWER;
 use decode::decode_texture::Texture;
@@ -14,10 +16,10 @@ use util::unsigned::Unsigned;
 // The length of what stands between a direct decoding's first byte and its first data.
 const HEAD: usize = 21;
 
-// The next length in the head, or that the list is broken where it is over the limit of a part.
+// The length that stands at a position of the head, or that the list is broken where it is over the limit of a part.
 fn part_len(head: &[u8; HEAD], pos: usize) -> Result<usize, Broken>
-    requires { pos + 4 ≤ 21 }
-    ensures { IfOk result (λ len. len ≤ 4096) }
+    requires { pos + 4 ≤ HEAD }
+    ensures { IfOk result (λ len. len ≤ MAX_PART) }
 {
     let len = u32::view(head, pos) as usize;
     if len <= MAX_PART {
